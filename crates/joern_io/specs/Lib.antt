@@ -1,0 +1,5 @@
+pub mod formers
+pub mod Faults
+pub mod Held
+pub mod Reading
+pub mod Writing

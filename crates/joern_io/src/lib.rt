@@ -1,0 +1,19 @@
+//! What stands between the analyser and the outside: files that are read, sinks that are written to, and the owners
+//! of memory that contracts see as plain lists and values.
+#![tactic(auto)]
+
+mod boxed;
+mod bytes;
+mod files;
+mod list;
+mod reading;
+mod sink;
+mod writing;
+
+pub use boxed::Boxed;
+pub use bytes::Bytes;
+pub use files::{Failed, Files};
+pub use list::List;
+pub use reading::{ReadStop, read_all};
+pub use sink::Sink;
+pub use writing::write_all;

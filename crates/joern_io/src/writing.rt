@@ -1,0 +1,23 @@
+ghost use Rattle.std.specs.Prelude.{◌≤◌, OnOk, OnErr};
+ghost use Rattle.joern_io.specs.Faults.{Rose};
+ghost use Rattle.joern_io.specs.Writing.{Appends, AppendsProperPrefix};
+
+use crate::files::Failed;
+use crate::sink::Sink;
+
+/// Writes all of the bytes, piece by piece. Takes no memory.
+///
+/// `Failed` comes with a fault of the sink alone, at the first one, and a proper prefix was taken.
+pub fn write_all<S: Sink>(sink: &mut S, bytes: &[u8]) -> Result<(), Failed>
+    ensures never_falls { S.faults sink.old ≤ S.faults sink.new }
+    ensures ok { OnOk result (Appends (S.took sink.old) (S.took sink.new) bytes.now) }
+    ensures err { OnErr result (Rose (S.faults sink.old) (S.faults sink.new)) }
+    ensures err_prefix { OnErr result (AppendsProperPrefix (S.took sink.old) (S.took sink.new) bytes.now) }
+{
+    let mut at: usize = 0;
+    while at < bytes.len() {
+        let count = sink.write(&bytes[at..])?;
+        at += count;
+    }
+    Ok(())
+}
