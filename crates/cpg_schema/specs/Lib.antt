@@ -1,0 +1,5 @@
+pub mod Names
+pub mod Graph
+pub mod Order
+pub mod Values
+pub mod Lines

@@ -1,0 +1,8 @@
+use Rattle.cpg_schema.specs.Lines.{edge_line}
+use Rattle.graph_text.proofs.RowByRow.{flat_map-take-one}
+use Rattle.graph_text.proofs.Composing.{Prints-then}
+use Rattle.graph_text.proofs.printer.Printer.edges.Goals as goal
+
+pub loop-place-preserved : goal.loop-place-preserved
+loop-place-preserved g c =
+    rw (flat_map-take-one edge_line _ _ _ c.edge.ensures) (Prints-then c.loop-place.invariant c.edge-in-loop-place.ensures)

@@ -1,0 +1,118 @@
+ghost use Rattle.std.specs.Prelude.{◌≡◌, ◌+◌, ◌≤◌, ◌++◌, [], true, false, length, take, OnOk, OnErr};
+ghost use Rattle.joern_io.specs.Faults.{Rose};
+ghost use Rattle.joern_io.specs.Writing.{Appends, AppendsProperPrefix};
+ghost use Rattle.graph_text.specs.Printing.{output, Prints};
+
+use joern_io::{Failed, Sink, write_all};
+use std::marker::Model;
+
+/// How many bytes wait at most.
+const ROOM: usize = 8192;
+
+/// A fixed buffer before a sink. Callers see the bytes that wait in it, and whether the sink has answered with a fault:
+/// from then on nothing more is written, and `finish` says so.
+#[derive(Drop)]
+pub(crate) struct Printer {
+    buffer: [u8; ROOM],
+    waiting: usize,
+    failed: bool,
+}
+
+impl Model for Printer {
+    ghost use Rattle.std.specs.Prelude.{◌≤◌, take};
+    ghost use Rattle.graph_text.specs.declared.printer.TheConstants.{ROOM};
+    ghost use Rattle.graph_text.specs.Printing.{Waiting};
+
+    ghost Value = { Waiting };
+
+    ghost view = { λ p. record { bytes = take p.waiting p.buffer; failed = p.failed } };
+
+    ghost invariant = { λ p. p.waiting ≤ ROOM };
+}
+
+impl Printer {
+    /// A printer in which nothing waits.
+    pub(crate) fn new() -> Printer
+        ensures nothing { result.bytes ≡ [] }
+        ensures no_fault { result.failed ≡ false }
+    {
+        Printer {
+            buffer: [0; ROOM],
+            waiting: 0,
+            failed: false,
+        }
+    }
+
+    /// Prints a text as it is.
+    pub(crate) fn text<S: Sink>(&mut self, sink: &mut S, text: &[u8])
+        ensures { Prints (output (S.took sink.old) (S.faults sink.old) self.old)
+            (output (S.took sink.new) (S.faults sink.new) self.new) text.now }
+    {
+        if text.len() <= self.room() {
+            self.keep(text);
+            return;
+        }
+        self.flush(sink);
+        if text.len() <= ROOM {
+            self.keep(text);
+        } else {
+            self.pass(sink, text);
+        }
+    }
+
+    /// How many bytes more can wait.
+    fn room(&self) -> usize
+        ensures { result + length self.now.bytes ≡ ROOM }
+    {
+        ROOM - self.waiting
+    }
+
+    /// Has a text wait for which there is room.
+    fn keep(&mut self, text: &[u8])
+        requires { length self.old.bytes + length text.now ≤ ROOM }
+        ensures bytes { self.new.bytes ≡ self.old.bytes ++ text.now }
+        ensures failed { self.new.failed ≡ self.old.failed }
+    {
+        let end = self.waiting + text.len();
+        self.buffer[self.waiting..end].copy_from_slice(text);
+        self.waiting = end;
+    }
+
+    /// Writes a text past the buffer, in which nothing waits.
+    fn pass<S: Sink>(&mut self, sink: &mut S, text: &[u8])
+        requires { self.old.bytes ≡ [] }
+        ensures { Prints (output (S.took sink.old) (S.faults sink.old) self.old)
+            (output (S.took sink.new) (S.faults sink.new) self.new) text.now }
+    {
+        if !self.failed {
+            self.failed = write_all(sink, text).is_err();
+        }
+    }
+
+    /// Writes what waits.
+    fn flush<S: Sink>(&mut self, sink: &mut S)
+        ensures printed { Prints (output (S.took sink.old) (S.faults sink.old) self.old)
+            (output (S.took sink.new) (S.faults sink.new) self.new) [] }
+        ensures nothing { self.new.bytes ≡ [] }
+    {
+        if !self.failed {
+            self.failed = write_all(sink, &self.buffer[..self.waiting]).is_err();
+        }
+        self.waiting = 0;
+    }
+
+    /// Ends the printing, and says whether all was written.
+    pub(crate) fn finish<S: Sink>(self, sink: &mut S) -> Result<(), Failed>
+        ensures never_falls { S.faults sink.old ≤ S.faults sink.new }
+        ensures ok { OnOk result (self.failed ≡ false) }
+        ensures ok_took { OnOk result (Appends (S.took sink.old) (S.took sink.new) self.bytes) }
+        ensures err { OnErr result (self.failed ≡ false → Rose (S.faults sink.old) (S.faults sink.new)) }
+        ensures err_took { OnErr result (self.failed ≡ false →
+            AppendsProperPrefix (S.took sink.old) (S.took sink.new) self.bytes) }
+        ensures after_fault { OnErr result (self.failed ≡ true → S.took sink.new ≡ S.took sink.old) }
+    {
+        let mut printer = self;
+        printer.flush(sink);
+        if printer.failed { Err(Failed) } else { Ok(()) }
+    }
+}

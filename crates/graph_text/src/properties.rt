@@ -1,0 +1,57 @@
+ghost use Rattle.std.specs.Option.{option_copied};
+ghost use Rattle.cpg_schema.specs.Lines.{key_text, text_property, number_property, properties_text};
+ghost use Rattle.graph_text.specs.Printing.{output, Prints};
+ghost use Rattle.graph_text.specs.Rows.{plain_node};
+
+use crate::printer::Printer;
+use crate::rows::NodeRow;
+use cpg_schema::Key;
+use joern_io::Sink;
+
+impl Printer {
+    /// Prints the properties of a node, in the order of the keys.
+    pub(crate) fn properties<S: Sink>(&mut self, sink: &mut S, node: &NodeRow<'_>)
+        ensures { Prints (output (S.took sink.old) (S.faults sink.old) self.old)
+            (output (S.took sink.new) (S.faults sink.new) self.new) (properties_text (plain_node node.now)) }
+    {
+        self.text_property(sink, Key::Name, node.name);
+        self.text_property(sink, Key::Code, node.code);
+        self.text_property(sink, Key::Filename, node.filename);
+        self.number_property(sink, Key::LineNumber, node.line_number);
+        self.number_property(sink, Key::Order, node.order);
+        self.number_property(sink, Key::ArgumentIndex, node.argument_index);
+        self.text_property(sink, Key::TypeFullName, node.type_full_name);
+        self.text_property(sink, Key::ControlStructureType, node.control_structure_type);
+        self.text_property(sink, Key::Linkage, node.linkage);
+    }
+
+    fn text_property<S: Sink>(&mut self, sink: &mut S, key: Key, value: Option<&[u8]>)
+        ensures { Prints (output (S.took sink.old) (S.faults sink.old) self.old)
+            (output (S.took sink.new) (S.faults sink.new) self.new) (text_property key (option_copied value.entry)) }
+    {
+        if let Some(bytes) = value {
+            self.key(sink, key);
+            self.value(sink, bytes);
+        }
+    }
+
+    fn number_property<S: Sink>(&mut self, sink: &mut S, key: Key, value: Option<u32>)
+        ensures { Prints (output (S.took sink.old) (S.faults sink.old) self.old)
+            (output (S.took sink.new) (S.faults sink.new) self.new) (number_property key value) }
+    {
+        if let Some(n) = value {
+            self.key(sink, key);
+            self.number(sink, n);
+        }
+    }
+
+    /// Prints ` KEY=`.
+    fn key<S: Sink>(&mut self, sink: &mut S, key: Key)
+        ensures { Prints (output (S.took sink.old) (S.faults sink.old) self.old)
+            (output (S.took sink.new) (S.faults sink.new) self.new) (key_text key) }
+    {
+        self.text(sink, b" ");
+        self.word(sink, key.name());
+        self.text(sink, b"=");
+    }
+}

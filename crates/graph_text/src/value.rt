@@ -1,0 +1,93 @@
+ghost use Rattle.std.specs.Prelude.{◌≡◌, ◌<◌, ◌≤◌, false, length, slice_index, take, decimal};
+ghost use Rattle.cpg_schema.specs.Values.{escape, escaped, hex_digit, is_plain};
+ghost use Rattle.graph_text.specs.Printing.{output, Prints};
+
+use crate::printer::Printer;
+use itoa::Buffer;
+use joern_io::Sink;
+
+/// Whether a byte stands for itself in a value.
+fn is_plain_byte(byte: u8) -> bool
+    ensures { result ≡ is_plain byte }
+{
+    (0x21..=0x7E).contains(&byte) && byte != b'%'
+}
+
+/// One of `0` to `9` and `A` to `F`.
+fn hex(n: u8) -> u8
+    requires { n < 16 }
+    ensures { result ≡ hex_digit n }
+{
+    if n < 10 { b'0' + n } else { b'A' + (n - 10) }
+}
+
+/// How many bytes at the front stand for themselves: all, or those before the first that does not.
+fn plain_len(bytes: &[u8]) -> usize
+    ensures within { result ≤ length bytes.now }
+    ensures plain { escaped (take result bytes.now) ≡ take result bytes.now }
+    ensures first { result < length bytes.now → is_plain (slice_index bytes.now result) ≡ false }
+{
+    for (at, byte) in bytes.iter().enumerate() {
+        if !is_plain_byte(*byte) {
+            return at;
+        }
+    }
+    bytes.len()
+}
+
+impl Printer {
+    /// Prints a value: each byte that is not plain as `%` and two hexadecimal digits.
+    pub(crate) fn value<S: Sink>(&mut self, sink: &mut S, bytes: &[u8])
+        ensures { Prints (output (S.took sink.old) (S.faults sink.old) self.old)
+            (output (S.took sink.new) (S.faults sink.new) self.new) (escaped bytes.now) }
+    {
+        let mut at = 0;
+        while at < bytes.len() {
+            let count = self.front(sink, &bytes[at..]);
+            at += count;
+        }
+    }
+
+    /// Prints a front of a value: the plain bytes there and the next byte. Returns how many bytes these are.
+    fn front<S: Sink>(&mut self, sink: &mut S, bytes: &[u8]) -> usize
+        requires { 0 < length bytes.now }
+        ensures progress { 0 < result }
+        ensures within { result ≤ length bytes.now }
+        ensures printed { Prints (output (S.took sink.old) (S.faults sink.old) self.old)
+            (output (S.took sink.new) (S.faults sink.new) self.new) (escaped (take result bytes.now)) }
+    {
+        let plain = plain_len(bytes);
+        self.text(sink, &bytes[..plain]);
+        if plain == bytes.len() {
+            return plain;
+        }
+        self.escape(sink, bytes[plain]);
+        plain + 1
+    }
+
+    /// Prints a byte that is not plain.
+    fn escape<S: Sink>(&mut self, sink: &mut S, byte: u8)
+        requires { is_plain byte ≡ false }
+        ensures { Prints (output (S.took sink.old) (S.faults sink.old) self.old)
+            (output (S.took sink.new) (S.faults sink.new) self.new) (escape byte) }
+    {
+        self.text(sink, &[b'%', hex(byte / 16), hex(byte % 16)]);
+    }
+
+    /// Prints a word as it is.
+    pub(crate) fn word<S: Sink>(&mut self, sink: &mut S, word: &str)
+        ensures { Prints (output (S.took sink.old) (S.faults sink.old) self.old)
+            (output (S.took sink.new) (S.faults sink.new) self.new) word.now }
+    {
+        self.text(sink, word.as_bytes());
+    }
+
+    /// Prints a number in decimal digits.
+    pub(crate) fn number<S: Sink>(&mut self, sink: &mut S, n: u32)
+        ensures { Prints (output (S.took sink.old) (S.faults sink.old) self.old)
+            (output (S.took sink.new) (S.faults sink.new) self.new) (decimal n) }
+    {
+        let mut digits = Buffer::new();
+        self.word(sink, digits.format(n));
+    }
+}
