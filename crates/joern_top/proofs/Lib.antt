@@ -1,0 +1,5 @@
+pub mod Deciding
+pub mod Answering
+pub mod ReadFaults
+pub mod WriteFaults
+pub mod Completing

@@ -1,0 +1,54 @@
+-- A write fault has its cause, and a proper prefix was written.
+use Rattle.std.proofs.Common.{◌≡◌, ℕ, ◌<◌, ◌⊎◌, inl, inr, List, [], length, Option, Some, None, sym, ◌∙◌, ap, subst, arith}
+use Rattle.joern_io.specs.Faults.{Rose}
+use Rattle.joern_io.specs.Held.{Held, file_of}
+use Rattle.joern_io.specs.Writing.{AppendsProperPrefix}
+use Rattle.joern_top.specs.declared.status.Status.{Status}
+use Rattle.joern_top.specs.declared.status.Status.TheVariants as status
+use Rattle.joern_top.specs.declared.answer.Answer.{Answer}
+use Rattle.joern_top.specs.declared.answer.Answer.TheVariants as answer
+use Rattle.joern_top.specs.Words.{Dump, command}
+use Rattle.joern_top.specs.Run.{Outcome, joern_out, command_outcome, dump_outcome}
+use Rattle.joern_top.specs.Answers.{outcome_of, IsDecided, Writes}
+use Rattle.joern_top.specs.Headline.{WriteFaultPrefix, WritesPrefix}
+use Rattle.joern_top.proofs.Deciding.{Decides, Blames, never_write_fault}
+use Rattle.joern_top.proofs.ReadFaults.{stops_at_first}
+
+pub write_fault_rose : (a : Answer) (end : Status) (before now : Option (List ℕ)) (writes_before writes : ℕ) →
+    Writes (outcome_of a) before now writes_before writes end → end ≡ status.WriteFault → Rose writes_before writes
+write_fault_rose a end before now writes_before writes (inl (same, taken)) is = absurd (never_write_fault a (sym same ∙ is))
+write_fault_rose a end before now writes_before writes (inr (same, rose, taken)) is = rose
+
+-- the rules' outcome, where the command's file is not held
+pub outcome_of_lacking : (words : List (List ℕ)) (held : Held) (name : List ℕ) → command words ≡ Some (Dump name) → file_of held name ≡ None →
+    joern_out words held ≡ dump_outcome name None
+outcome_of_lacking words held name commanded lacks = ap (λ c. command_outcome c held) commanded ∙ ap (dump_outcome name) lacks
+
+-- the prefix of the rules' bytes, or of the line that says that a device failed to read
+prefix_of : (words : List (List ℕ)) (held : Held) (faults_before faults : ℕ) (a : Answer) (before now : Option (List ℕ)) →
+    (IsDecided a → outcome_of a ≡ joern_out words held) → Blames words (Some held) faults_before faults a →
+    AppendsProperPrefix before now (outcome_of a).bytes → WritesPrefix words held faults_before faults before now
+prefix_of words held faults_before faults (answer.ReadFault name) before now decided (commanded, inl rose) prefix =
+    inr (rose, (0, stops_at_first words (Some held) faults_before faults name.now commanded (inl rose), prefix))
+prefix_of words held faults_before faults (answer.ReadFault name) before now decided (commanded, inr lacks) prefix =
+    let P : Outcome → Type 0 = λ o. AppendsProperPrefix before now o.bytes in
+    inl (subst P (sym (outcome_of_lacking words held name.now commanded lacks)) prefix)
+prefix_of words held faults_before faults answer.NoMemory before now decided blames (count, below, taken) = absurd (omega arith)
+prefix_of words held faults_before faults answer.Usage before now decided blames prefix =
+    let P : Outcome → Type 0 = λ o. AppendsProperPrefix before now o.bytes in inl (subst P (decided tt) prefix)
+prefix_of words held faults_before faults answer.TooLarge before now decided blames prefix =
+    let P : Outcome → Type 0 = λ o. AppendsProperPrefix before now o.bytes in inl (subst P (decided tt) prefix)
+prefix_of words held faults_before faults (answer.Unbuilt name) before now decided blames prefix =
+    let P : Outcome → Type 0 = λ o. AppendsProperPrefix before now o.bytes in inl (subst P (decided tt) prefix)
+prefix_of words held faults_before faults (answer.Dump name) before now decided blames prefix =
+    let P : Outcome → Type 0 = λ o. AppendsProperPrefix before now o.bytes in inl (subst P (decided tt) prefix)
+
+pub write_fault_prefix_is : (words : List (List ℕ)) (held : Option Held) (faults_before faults : ℕ) (a : Answer) (end : Status)
+    (before now : Option (List ℕ)) (writes_before writes : ℕ) →
+    Decides words held a → Blames words held faults_before faults a → Writes (outcome_of a) before now writes_before writes end →
+    WriteFaultPrefix words held faults_before faults end before now
+write_fault_prefix_is words None faults_before faults a end before now writes_before writes decided blames written = tt
+write_fault_prefix_is words (Some held) faults_before faults a end before now writes_before writes decided blames (inl (same, taken)) = λ is.
+    absurd (never_write_fault a (sym same ∙ is))
+write_fault_prefix_is words (Some held) faults_before faults a end before now writes_before writes decided blames (inr (same, rose, taken)) = λ is.
+    prefix_of words held faults_before faults a before now decided blames taken

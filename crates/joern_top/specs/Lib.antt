@@ -1,0 +1,9 @@
+pub mod Status
+pub mod Words
+pub mod Commands
+pub mod Source
+pub mod SyntaxLayer
+pub mod Refusals
+pub mod Run
+pub mod Answers
+pub mod Headline

@@ -1,0 +1,75 @@
+ghost use Rattle.std.specs.Prelude.{◌≡◌, ◌≤◌, ◌⊎◌, length, Some, IfSome, map, string_bytes, IsNone};
+ghost use Rattle.joern_io.specs.Faults.{Rose};
+ghost use Rattle.joern_io.specs.Held.{file_of, Lacks};
+ghost use Rattle.joern_top.specs.Answers.{outcome_of, IsDecided, IfReadFault};
+ghost use Rattle.joern_top.specs.Run.{joern_out, dump_outcome};
+ghost use Rattle.joern_top.specs.Words.{Dump, command};
+
+use crate::source::{MAX_FILE_BYTES, accepts};
+use crate::words::{Command, read_words};
+use joern_io::{Files, ReadStop, read_all};
+use std::alloc::Global;
+
+/// What is answered, before it is written.
+#[derive(Clone, Copy, Debug)]
+pub(crate) enum Answer<'a> {
+    Usage,
+    /// The file of this name could not be read.
+    ReadFault { name: &'a str },
+    TooLarge,
+    /// The source of this name is outside the part of the language that is built.
+    Unbuilt { name: &'a str },
+    /// The graph of the file of this name, which has no token.
+    Dump { name: &'a str },
+    NoMemory,
+}
+
+/// The answer to the words, in the order of refusals.
+pub(crate) fn decide<'a, F: Files>(alloc: Global, words: &'a [String], files: &mut F) -> Answer<'a>
+    ensures held { F.held files.new ≡ F.held files.old }
+    ensures never_falls { F.faults files.old ≤ F.faults files.new }
+    ensures no_command { IsNone (command (map string_bytes words.now)) →
+        (result ≡ Answer.Usage) × (files.new ≡ files.old) }
+    ensures usage { result ≡ Answer.Usage → IsNone (command (map string_bytes words.now)) }
+    ensures decided { IfSome (F.held files.old) (λ held. IsDecided result →
+        outcome_of result ≡ joern_out (map string_bytes words.now) held) }
+    ensures read_fault { IfReadFault result (λ name. (command (map string_bytes words.now) ≡ Some (Dump name))
+        × (Rose (F.faults files.old) (F.faults files.new) ⊎ Lacks (F.held files.old) name)) }
+{
+    match read_words(words) {
+        None => Answer::Usage,
+        Some(Command::Dump { name }) => dump_answer(alloc, name, files),
+    }
+}
+
+/// The answer to a dump of the file of this name.
+fn dump_answer<'a, F: Files>(alloc: Global, name: &'a str, files: &mut F) -> Answer<'a>
+    ensures held { F.held files.new ≡ F.held files.old }
+    ensures never_falls { F.faults files.old ≤ F.faults files.new }
+    ensures no_usage { result ≡ Answer.Usage → ⊥ }
+    ensures decided { IfSome (F.held files.old) (λ held. IsDecided result →
+        outcome_of result ≡ dump_outcome name.now (file_of held name.now)) }
+    ensures read_fault { IfReadFault result (λ file. (file ≡ name.now)
+        × (Rose (F.faults files.old) (F.faults files.new) ⊎ Lacks (F.held files.old) name.now)) }
+{
+    match read_all(alloc, files, name, MAX_FILE_BYTES) {
+        Ok(bytes) => source_answer(name, &bytes),
+        Err(ReadStop::Failed) => Answer::ReadFault { name },
+        Err(ReadStop::TooLarge) => Answer::TooLarge,
+        Err(ReadStop::Memory) => Answer::NoMemory,
+    }
+}
+
+/// The answer to a dump of a file with these bytes.
+fn source_answer<'a>(name: &'a str, bytes: &[u8]) -> Answer<'a>
+    requires { length bytes.now ≤ MAX_FILE_BYTES }
+    ensures outcome { outcome_of result ≡ dump_outcome name.now (Some bytes.now) }
+    ensures decided { IsDecided result }
+    ensures no_usage { result ≡ Answer.Usage → ⊥ }
+{
+    if accepts(bytes) {
+        Answer::Dump { name }
+    } else {
+        Answer::Unbuilt { name }
+    }
+}

@@ -1,0 +1,14 @@
+//! The top call: from the words of the command line and the files to the bytes that go out, by the rules alone.
+#![tactic(auto)]
+
+mod answer;
+mod file_graph;
+mod source;
+mod status;
+mod top;
+mod words;
+mod write;
+
+pub use source::MAX_FILE_BYTES;
+pub use status::{Reason, Status, What};
+pub use top::joern_one;

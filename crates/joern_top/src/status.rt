@@ -1,0 +1,52 @@
+ghost use Rattle.std.specs.Prelude.{◌≡◌};
+ghost use Rattle.joern_top.specs.Status.{status_code};
+
+/// How a run ended.
+#[derive(Clone, Copy, Debug, PartialEq, Eq)]
+pub enum Status {
+    /// The command's lines were written.
+    Ok,
+    /// The words give no command.
+    Usage,
+    /// A source is refused. `file` counts the sources from 0, and `at` is a byte position in it.
+    SourceRefused { file: u32, at: u32, reason: Reason },
+    /// A file could not be read. `name` counts the files in the order of reading, from 0.
+    ReadFault { name: u32 },
+    /// Not all was written.
+    WriteFault,
+    /// A limit was passed. `at` is the file's place in the order of reading, from 0.
+    Limit { what: What, at: u32 },
+    /// Memory is wanting; nothing was written.
+    NoMemory,
+}
+
+/// Why a source is refused.
+#[derive(Clone, Copy, Debug, PartialEq, Eq)]
+pub enum Reason {
+    /// It is no file of the part of the language that is built.
+    Unbuilt,
+}
+
+/// What there is too much of.
+#[derive(Clone, Copy, Debug, PartialEq, Eq)]
+pub enum What {
+    /// The bytes of one file.
+    FileBytes,
+}
+
+impl Status {
+    /// The status with which the program ends.
+    pub fn code(&self) -> u8
+        ensures { result ≡ status_code self.now }
+    {
+        match self {
+            Status::Ok => 0,
+            Status::Usage => 2,
+            Status::SourceRefused { .. } => 3,
+            Status::ReadFault { .. } => 6,
+            Status::WriteFault => 7,
+            Status::Limit { .. } => 8,
+            Status::NoMemory => 9,
+        }
+    }
+}

@@ -1,0 +1,55 @@
+ghost use Rattle.std.specs.Prelude.{◌≡◌, ◌≤◌, ◌⊎◌, map, string_bytes, IsNone};
+ghost use Rattle.joern_io.specs.Faults.{Rose};
+ghost use Rattle.joern_top.specs.Words.{command};
+ghost use Rattle.joern_top.specs.Headline.{StatusIsTheRules, BytesAreTheRules, ReadFaultHasCause, ReadFaultLine, WriteFaultPrefix, Completes};
+
+use crate::answer::{Answer, decide};
+use crate::status::Status;
+use crate::write::write_answer;
+use joern_io::{Files, Sink};
+use std::alloc::Global;
+
+/// Runs the command that the words give, and says how the run ended. It returns for all words, files and sinks.
+///
+/// The words are those of the command line without the program's own name. All memory is taken before the first write.
+pub fn joern_one<F: Files, S: Sink>(
+    alloc: Global,
+    words: &[String],
+    files: &mut F,
+    out: &mut S,
+) -> Status
+    // An answer, which is every status but a fault and want of memory, is the rules' answer, and so are the bytes.
+    ensures status { StatusIsTheRules (map string_bytes words.now) (F.held files.old) result }
+    ensures bytes { BytesAreTheRules (map string_bytes words.now) (F.held files.old) result (S.took out.old) (S.took out.new) }
+
+    // A file could not be read: a device failed or the file is not held.
+    ensures read_fault { ReadFaultHasCause (map string_bytes words.now)
+        (F.held files.old) (F.faults files.old) (F.faults files.new) result }
+    ensures read_fault_line { ReadFaultLine (map string_bytes words.now) result (S.took out.old) (S.took out.new) }
+
+    // Not all was written: the sink failed.
+    ensures write_fault { result ≡ Status.WriteFault → Rose (S.faults out.old) (S.faults out.new) }
+    ensures write_fault_prefix { WriteFaultPrefix (map string_bytes words.now)
+        (F.held files.old) (F.faults files.old) (F.faults files.new) result (S.took out.old) (S.took out.new) }
+
+    // Memory is wanting: nothing was written.
+    ensures no_memory { result ≡ Status.NoMemory → out.new ≡ out.old }
+
+    // Without a fault the rules' answer comes, unless memory is wanting.
+    ensures complete { Completes (map string_bytes words.now) (F.held files.old)
+        (F.faults files.old) (F.faults files.new) (S.faults out.old) (S.faults out.new) result }
+
+    // Words that give no command are answered by Usage, and nothing is opened; other words are not.
+    ensures usage { result ≡ Status.Usage → IsNone (command (map string_bytes words.now)) }
+    ensures no_command { IsNone (command (map string_bytes words.now)) →
+        (files.new ≡ files.old) × ((result ≡ Status.Usage) ⊎ (result ≡ Status.WriteFault)) }
+
+    ensures held { F.held files.new ≡ F.held files.old }
+    ensures reads_never_fall { F.faults files.old ≤ F.faults files.new }
+    ensures writes_never_fall { S.faults out.old ≤ S.faults out.new }
+{
+    match decide(alloc, words, files) {
+        Answer::NoMemory => Status::NoMemory,
+        decided => write_answer(&decided, out),
+    }
+}
