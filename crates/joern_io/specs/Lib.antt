@@ -3,3 +3,5 @@ pub mod Faults
 pub mod Held
 pub mod Reading
 pub mod Writing
+pub mod Shelf
+pub mod Tape
