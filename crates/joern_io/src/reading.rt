@@ -3,9 +3,8 @@ ghost use Rattle.joern_io.specs.Faults.{Rose};
 ghost use Rattle.joern_io.specs.Held.{file_of, Lacks, IsLargerThan};
 ghost use Rattle.joern_io.specs.declared.reading.ReadStop.TheVariants.{Memory};
 
-use std::alloc::{AllocError, Global};
-
 use crate::files::{Failed, Files};
+use std::alloc::{AllocError, Global};
 
 /// Why a file was not read whole.
 #[derive(Clone, Copy, Debug, PartialEq, Eq)]
@@ -54,11 +53,7 @@ pub fn read_all<F: Files>(
 }
 
 /// The bytes that are left of the open file, of at most `limit`.
-fn read_rest<F: Files>(
-    alloc: Global,
-    files: &mut F,
-    limit: u32,
-) -> Result<Vec<u8>, ReadStop>
+fn read_rest<F: Files>(alloc: Global, files: &mut F, limit: u32) -> Result<Vec<u8>, ReadStop>
     requires { F.is_open files.old ≡ true }
     ensures held { F.held files.new ≡ F.held files.old }
     ensures never_falls { F.faults files.old ≤ F.faults files.new }

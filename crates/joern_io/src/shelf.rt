@@ -1,13 +1,12 @@
-ghost use Rattle.std.specs.Prelude.{◌≡◌, ◌≤◌, ◌+◌, ◌⊎◌, ◌↔◌, Some, None, true, min, take, length, is_some, Contains, IsSome, IsErr, IfOk, IfSome, IfNone, OnOk, OnErr};
+ghost use Rattle.std.specs.Prelude.{◌≡◌, ◌≢◌, ◌≤◌, ◌⊎◌, ◌↔◌, [], Some, None, true, min, take, length, is_some, Contains, IsSome, IsErr, IfOk, IfSome, IfNone, OnOk, OnErr};
 ghost use Rattle.joern_io.specs.Faults.{next_count};
 ghost use Rattle.joern_io.specs.Held.{file_of};
 ghost use Rattle.joern_io.specs.Reading.{Reads};
 ghost use Rattle.joern_io.specs.Shelf.{NamesDiffer, KeepsShelf, read_length, held_of, bytes_at, left_at, IsWithin};
 
-use std::marker::Model;
-
 use crate::files::{Failed, Files};
 use crate::numbers::is_listed;
+use std::marker::Model;
 
 /// How far the open file was read.
 #[derive(Clone, Copy, Debug)]
@@ -37,8 +36,13 @@ impl Model for Shelf {
     ghost Value = { ShelfState };
 
     ghost view = { λ it. record {
-        files = held_of it.files.items; piece = it.piece; fails = it.fails.items;
-        calls = it.calls; left = left_at it.files.items it.place; faults = it.faults } };
+      files = held_of it.files.items;
+      piece = it.piece;
+      fails = it.fails.items;
+      calls = it.calls;
+      left = left_at it.files.items it.place;
+      faults = it.faults;
+    } };
 
     ghost invariant = { λ it. (1 ≤ it.piece) × IsWithin it.files.items it.place };
 }
@@ -52,8 +56,13 @@ impl Shelf {
         requires names { NamesDiffer (held_of files.items) }
         requires piece { 1 ≤ piece }
         ensures { result ≡ record {
-            files = held_of files.items; piece = piece; fails = fails.items;
-            calls = 0; left = None; faults = 0 } }
+          files = held_of files.items;
+          piece = piece;
+          fails = fails.items;
+          calls = 0;
+          left = None;
+          faults = 0;
+        } }
     {
         Shelf {
             files,
@@ -124,7 +133,7 @@ impl Files for Shelf {
         let Some(place) = self.place else {
             unreachable!()
         };
-        let count = copy_piece(&self.files, place, into, self.piece);
+        let count = copy_piece(left_from(&self.files, place), into, self.piece);
         self.place = Some(Place {
             file: place.file,
             at: place.at + count,
@@ -147,22 +156,21 @@ fn place_of(files: &[(String, Vec<u8>)], name: &str) -> Option<usize>
     None
 }
 
-/// Copies the bytes from the place on to the front of `into`, of at most `piece` bytes, and returns how many.
-fn copy_piece(
-    files: &[(String, Vec<u8>)],
-    place: Place,
-    into: &mut [u8],
-    piece: usize,
-) -> usize
-    requires within { IsWithin files.now (Some place) }
-    requires piece { 1 ≤ piece }
-    ensures count { IfSome (left_at files.now (Some place)) (λ left.
-        result ≡ min piece (min (length into.new) (length left))) }
-    ensures reads { Reads (left_at files.now (Some place))
-        (left_at files.now (Some (record place { at = place.at + result }))) result into.new }
-    ensures within { IsWithin files.now (Some (record place { at = place.at + result })) }
+/// The bytes of the open file from the place on.
+fn left_from(files: &[(String, Vec<u8>)], place: Place) -> &[u8]
+    requires { IsWithin files.now (Some place) }
+    ensures { left_at files.now (Some place) ≡ Some result.now }
 {
-    let left = &files[place.file].1[place.at..];
+    &files[place.file].1[place.at..]
+}
+
+/// Copies the front of `left` to the front of `into`, of at most `piece` bytes, and returns how many.
+fn copy_piece(left: &[u8], into: &mut [u8], piece: usize) -> usize
+    requires { 1 ≤ piece }
+    ensures count { result ≡ min piece (min (length into.new) (length left.now)) }
+    ensures front { take result into.new ≡ take result left.now }
+    ensures end { into.new ≢ [] → result ≡ 0 → left.now ≡ [] }
+{
     let count = piece.min(into.len()).min(left.len());
     into[..count].copy_from_slice(&left[..count]);
     count

@@ -2,12 +2,11 @@ ghost use Rattle.std.specs.Prelude.{◌≡◌, ◌≢◌, ◌<◌, ◌≤◌, �
 ghost use Rattle.joern_io.specs.Faults.{next_count};
 ghost use Rattle.joern_io.specs.Tape.{room_left, KeepsTape};
 
-use std::alloc::{AllocError, Global};
-use std::marker::Model;
-
 use crate::files::Failed;
 use crate::numbers::is_listed;
 use crate::sink::Sink;
+use std::alloc::{AllocError, Global};
+use std::marker::Model;
 
 /// A sink in memory, of a fixed room. A write takes at most one piece, and the writes that are listed by their number
 /// fail.
@@ -30,8 +29,13 @@ impl Model for Tape {
     ghost Value = { TapeState };
 
     ghost view = { λ it. record {
-        took = it.bytes.items; room = it.room; piece = it.piece; fails = it.fails.items;
-        writes = it.writes; faults = it.faults } };
+      took = it.bytes.items;
+      room = it.room;
+      piece = it.piece;
+      fails = it.fails.items;
+      writes = it.writes;
+      faults = it.faults;
+    } };
 
     ghost invariant = { λ it. (1 ≤ it.piece) × (vec_len it.bytes ≤ it.room) × (it.room ≤ vec_capacity it.bytes) };
 }
@@ -49,7 +53,13 @@ impl Tape {
     ) -> Result<Tape, AllocError>
         requires { 1 ≤ piece }
         ensures { IfOk result (λ tape. tape ≡ record {
-            took = []; room = room; piece = piece; fails = fails.items; writes = 0; faults = 0 }) }
+          took = [];
+          room = room;
+          piece = piece;
+          fails = fails.items;
+          writes = 0;
+          faults = 0;
+        }) }
     {
         Ok(Tape {
             bytes: Vec::with_capacity(alloc, room)?,
