@@ -1,5 +1,5 @@
 -- What was taken grows piece after piece.
-use Rattle.std.proofs.Common.{◌≡◌, ℕ, ◌+◌, ◌≤◌, List, ◌++◌, length, take, drop, Option, Some, None, append_assoc}
+use Rattle.std.proofs.Common.{ℕ, ◌+◌, List, take, drop, Option, Some, None, append_assoc}
 use Rattle.std.proofs.Math.Seq.{take-add}
 use Rattle.joern_io.specs.Writing.{Appends}
 

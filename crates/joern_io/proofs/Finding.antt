@@ -1,5 +1,5 @@
 -- A file is looked for by its name, from the front.
-use Rattle.std.proofs.Common.{◌≡◌, ℕ, ◌+◌, ◌<◌, List, ◌∷◌, length, drop, get_or, Some, if◌then◌else◌, nat_eq, String, Vec, string_bytes, add-one, drop-cons, refl}
+use Rattle.std.proofs.Common.{◌≡◌, ℕ, ◌+◌, ◌<◌, List, length, drop, get_or, Some, if◌then◌else◌, nat_eq, String, Vec, string_bytes, add-one, drop-cons, refl}
 use Rattle.std.specs.Cmp.Lexicographic.{pointwise}
 use Rattle.std.proofs.lemmas.Option.{slice_get_read}
 use Rattle.joern_io.specs.Held.{file_of}

@@ -5,3 +5,4 @@ pub mod Reading
 pub mod Writing
 pub mod Shelf
 pub mod Tape
+pub mod Disk

@@ -1,5 +1,5 @@
 -- Files in memory, of which calls fail by their number.
-use Rattle.std.specs.Prelude.{ℕ, ◌≡◌, ◌<◌, ◌≤◌, List, [], ◌∷◌, length, drop, Option, Some, None, String, Vec, string_bytes, slice_get, option_map, unwrap_or, min}
+use Rattle.std.specs.Prelude.{ℕ, ◌≡◌, ◌≤◌, List, [], ◌∷◌, length, drop, Option, Some, None, String, Vec, string_bytes, slice_get, option_map, unwrap_or, min}
 use Rattle.joern_io.specs.Held.{Held, file_of}
 use Rattle.joern_io.specs.declared.shelf.Place.{Place}
 
