@@ -13,6 +13,8 @@ mod shelf;
 mod sink;
 mod std_sink;
 mod tape;
+#[cfg(test)]
+mod tests;
 mod writing;
 
 pub use boxed::Boxed;

@@ -1,4 +1,4 @@
-ghost use Rattle.std.specs.Prelude.{◌≡◌, ◌≢◌, ◌≤◌, ◌⊎◌, ◌↔◌, [], Some, None, true, min, take, length, is_some, Contains, IsSome, IsErr, IfOk, IfSome, IfNone, OnOk, OnErr};
+ghost use Rattle.std.specs.Prelude.{◌≡◌, ◌≢◌, ◌≤◌, ◌⊎◌, ◌↔◌, [], Some, None, true, min, take, length, is_some, Contains, IsTrue, IsSome, IsErr, IfOk, IfSome, IfNone, OnOk, OnErr};
 ghost use Rattle.joern_io.specs.Faults.{next_count};
 ghost use Rattle.joern_io.specs.Held.{file_of};
 ghost use Rattle.joern_io.specs.Reading.{Reads};
@@ -72,6 +72,32 @@ impl Shelf {
             place: None,
             faults: 0,
         }
+    }
+
+    /// Whether each name stands once, as `new` asks.
+    pub fn names_differ(files: &[(String, Vec<u8>)]) -> bool
+        ensures { IsTrue result ↔ NamesDiffer (held_of files.now) }
+    {
+        for (index, file) in files.iter().enumerate() {
+            if place_of(&files[index + 1..], file.0.as_str()).is_some() {
+                return false;
+            }
+        }
+        true
+    }
+
+    /// How many calls of `open` and `read` there were.
+    pub fn calls(&self) -> u64
+        ensures { result ≡ self.now.calls }
+    {
+        self.calls
+    }
+
+    /// How many of the calls were faults.
+    pub fn faults(&self) -> u64
+        ensures { result ≡ self.now.faults }
+    {
+        self.faults
     }
 }
 

@@ -77,6 +77,20 @@ impl Tape {
     {
         self.bytes.as_slice()
     }
+
+    /// How many writes of pieces that are not empty there were.
+    pub fn writes(&self) -> u64
+        ensures { result ≡ self.now.writes }
+    {
+        self.writes
+    }
+
+    /// How many of the writes were faults.
+    pub fn faults(&self) -> u64
+        ensures { result ≡ self.now.faults }
+    {
+        self.faults
+    }
 }
 
 impl Sink for Tape {
