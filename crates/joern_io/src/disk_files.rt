@@ -1,5 +1,4 @@
-ghost use Rattle.std.specs.Prelude.{◌≡◌, ◌≤◌, None, true, false, length, IfOk, IfSome, OnOk, OnErr};
-ghost use Rattle.joern_io.specs.Faults.{next_count};
+ghost use Rattle.std.specs.Prelude.{◌≡◌, ◌≤◌, None, false, length, IfSome};
 
 use crate::files::{Failed, Files};
 use std::io::{ErrorKind, Read};

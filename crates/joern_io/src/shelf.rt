@@ -99,6 +99,14 @@ impl Shelf {
     {
         self.faults
     }
+
+    /// Counts a fault.
+    fn fault(&mut self) -> Failed
+        ensures { self.new ≡ record self.old { faults = next_count self.old.faults } }
+    {
+        self.faults = self.faults.saturating_add(1);
+        Failed
+    }
 }
 
 impl Files for Shelf {
@@ -118,6 +126,7 @@ impl Files for Shelf {
         ensures fails { IsErr result
             ↔ ((file_of self.old.files name.now ≡ None) ⊎ Contains self.old.fails self.new.calls) }
         ensures never_falls { self.old.faults ≤ self.new.faults }
+        ensures ok_open { OnOk result (IsSome self.new.left) }
         ensures ok_left { OnOk result (self.new.left ≡ file_of self.old.files name.now) }
         ensures ok_faults { OnOk result (self.new.faults ≡ self.old.faults) }
         ensures err_left { OnErr result (self.new.left ≡ None) }
@@ -131,8 +140,7 @@ impl Files for Shelf {
             return Err(Failed);
         };
         if is_listed(&self.fails, self.calls) {
-            self.faults = self.faults.saturating_add(1);
-            return Err(Failed);
+            return Err(self.fault());
         }
         self.place = Some(Place { file, at: 0 });
         Ok(())
@@ -140,11 +148,12 @@ impl Files for Shelf {
 
     /// Reads the next piece of the open file. It fails exactly where the number of this call is listed.
     fn read(&mut self, into: &mut [u8]) -> Result<usize, Failed>
-        requires { is_some self.old.left ≡ true }
+        requires { IsSome self.old.left }
         ensures keeps { KeepsShelf self.old self.new }
         ensures calls { self.new.calls ≡ next_count self.old.calls }
         ensures fails { IsErr result ↔ Contains self.old.fails self.new.calls }
         ensures never_falls { self.old.faults ≤ self.new.faults }
+        ensures open { IsSome self.new.left }
         ensures count { IfOk result (λ count. count ≡ read_length self.old into.new) }
         ensures ok { IfOk result (λ count. Reads self.old.left self.new.left count into.new) }
         ensures ok_faults { OnOk result (self.new.faults ≡ self.old.faults) }
@@ -153,8 +162,7 @@ impl Files for Shelf {
     {
         self.calls = self.calls.saturating_add(1);
         if is_listed(&self.fails, self.calls) {
-            self.faults = self.faults.saturating_add(1);
-            return Err(Failed);
+            return Err(self.fault());
         }
         let Some(place) = self.place else {
             unreachable!()
