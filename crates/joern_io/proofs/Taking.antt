@@ -1,6 +1,5 @@
 -- The bytes that were read so far, and those that are left.
-use Rattle.std.proofs.Common.{◌≡◌, ℕ, ◌+◌, ◌<◌, ◌≤◌, List, [], ◌∷◌, ◌++◌, length, take, drop, Option, Some, None, refl, sym, append_assoc, arith}
-use Rattle.joern_io.specs.Reading.{Reads, ReadsFront}
+use Rattle.std.proofs.Common.{◌≡◌, ℕ, List, ◌++◌, Option, Some, None}
 
 -- what was read and what is left now are what was left before, where that is told
 abbrev pub TookOff : Option (List ℕ) → Option (List ℕ) → List ℕ → Type 0

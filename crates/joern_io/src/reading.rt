@@ -28,9 +28,11 @@ impl From<AllocError> for ReadStop {
 /// How many bytes are asked for in one read.
 const PIECE: usize = 16384;
 
-/// The whole file of this name, of at most `limit` bytes.
+/// The bytes of the whole file of this name, if they are at most `limit`.
 ///
-/// Reading stops at the first byte past the limit. The file is left open where reading stopped.
+/// `Failed` comes where the name is known not to be held, which is no fault, or at the first fault of the files.
+/// `TooLarge` comes where the file has more bytes than the limit; at most one piece past the limit was read. What the
+/// files hold stays, and which of them is open afterwards is not said.
 pub fn read_all<F: Files>(
     alloc: Global,
     files: &mut F,
@@ -43,6 +45,8 @@ pub fn read_all<F: Files>(
     ensures within { IfOk result (λ bytes. vec_len bytes ≤ limit) }
     ensures failed { IsErrOf result ReadStop.Failed →
         Rose (F.faults files.old) (F.faults files.new) ⊎ Lacks (F.held files.old) name.now }
+    ensures lacks { Lacks (F.held files.old) name.now →
+        IsErrOf result ReadStop.Failed × (F.faults files.new ≡ F.faults files.old) }
     ensures too_large { IsErrOf result ReadStop.TooLarge →
         IfSome (F.held files.old) (λ held. IsLargerThan limit (file_of held name.now)) }
 {
@@ -52,7 +56,7 @@ pub fn read_all<F: Files>(
     read_rest(alloc, files, limit)
 }
 
-/// The bytes that are left of the open file, of at most `limit`.
+/// The bytes that are left of the open file, if they are at most `limit`.
 fn read_rest<F: Files>(alloc: Global, files: &mut F, limit: u32) -> Result<Vec<u8>, ReadStop>
     requires { F.is_open files.old ≡ true }
     ensures held { F.held files.new ≡ F.held files.old }

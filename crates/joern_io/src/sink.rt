@@ -6,15 +6,16 @@ use crate::files::Failed;
 
 /// Takes bytes, in the order in which they are written.
 ///
-/// `took` are all bytes that were taken, which may be untold, as for a terminal. `faults` counts the faults so far.
+/// `took` are all bytes that were taken, which may be untold, as for a terminal: then no clause speaks of bytes.
+/// `faults` counts the faults so far, in 64 bits.
 pub trait Sink {
     ghost took: { Self → Option (List ℕ) };
 
     ghost faults: { Self → ℕ };
 
-    /// Takes a prefix of the piece, and returns its length: 0 only where the piece is empty.
+    /// Takes a prefix of the piece, and returns its length in bytes: 0 only where the piece is empty.
     ///
-    /// `Failed` comes with a fault alone, for a piece that is not empty, and nothing was taken.
+    /// `Failed` comes with a fault alone, for a piece that is not empty, and then nothing was taken.
     fn write(&mut self, piece: &[u8]) -> Result<usize, Failed>
         ensures never_falls { faults self.old ≤ faults self.new }
         ensures count { IfOk result (λ count. count ≤ length piece.now) }

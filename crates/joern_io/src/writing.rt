@@ -5,9 +5,11 @@ ghost use Rattle.joern_io.specs.Writing.{Appends, AppendsProperPrefix};
 use crate::files::Failed;
 use crate::sink::Sink;
 
-/// Writes all of the bytes, piece by piece. Takes no memory.
+/// Writes all of the bytes, piece by piece, without memory.
 ///
-/// `Failed` comes with a fault of the sink alone, at the first one, and a proper prefix was taken.
+/// `Failed` comes with a fault of the sink alone, at the first write that failed. Then the sink took a proper prefix of
+/// the bytes.
+#[tactic(auto, using(crate::proofs::Appending::appending))]
 pub fn write_all<S: Sink>(sink: &mut S, bytes: &[u8]) -> Result<(), Failed>
     ensures never_falls { S.faults sink.old ≤ S.faults sink.new }
     ensures ok { OnOk result (Appends (S.took sink.old) (S.took sink.new) bytes.now) }

@@ -1,0 +1,211 @@
+ghost use Rattle.std.specs.Prelude.{◌≡◌, ◌≢◌, ◌≤◌, ◌⊎◌, ◌↔◌, [], Some, None, true, min, take, length, is_some, Contains, IsTrue, IsSome, IsErr, IfOk, IfSome, IfNone, OnOk, OnErr};
+ghost use Rattle.joern_io.specs.Faults.{next_count};
+ghost use Rattle.joern_io.specs.Held.{file_of};
+ghost use Rattle.joern_io.specs.Reading.{Reads};
+ghost use Rattle.joern_io.specs.Shelf.{NamesDiffer, KeepsShelf, read_length, held_of, bytes_at, left_at, IsWithin};
+
+use crate::files::{Failed, Files};
+use crate::numbers::is_listed;
+use std::marker::Model;
+
+/// How far the open file was read.
+#[derive(Clone, Copy, Debug)]
+struct Place {
+    file: usize,
+    at: usize,
+}
+
+/// Files in memory. A read gives at most one piece, and the calls that are listed by their number fail.
+///
+/// A contract sees its files, what it was made with, how many calls there were, what is left of the open file and how
+/// many faults there were.
+#[derive(Debug, Drop)]
+pub struct Shelf {
+    files: Vec<(String, Vec<u8>)>,
+    piece: usize,
+    fails: Vec<u32>,
+    calls: u64,
+    place: Option<Place>,
+    faults: u64,
+}
+
+impl Model for Shelf {
+    ghost use Rattle.std.specs.Prelude.{◌≤◌};
+    ghost use Rattle.joern_io.specs.Shelf.{ShelfState, held_of, left_at, IsWithin};
+
+    ghost Value = { ShelfState };
+
+    ghost view = { λ it. record {
+      files = held_of it.files.items;
+      piece = it.piece;
+      fails = it.fails.items;
+      calls = it.calls;
+      left = left_at it.files.items it.place;
+      faults = it.faults;
+    } };
+
+    ghost invariant = { λ it. (1 ≤ it.piece) × IsWithin it.files.items it.place };
+}
+
+impl Shelf {
+    /// A shelf of these files by name, of which none is open.
+    ///
+    /// A read gives at most `piece` bytes. `fails` lists the numbers of the calls that fail: the calls of `open` and
+    /// of `read` are numbered together, from 1.
+    pub fn new(files: Vec<(String, Vec<u8>)>, piece: usize, fails: Vec<u32>) -> Shelf
+        requires names { NamesDiffer (held_of files.items) }
+        requires piece { 1 ≤ piece }
+        ensures { result ≡ record {
+          files = held_of files.items;
+          piece = piece;
+          fails = fails.items;
+          calls = 0;
+          left = None;
+          faults = 0;
+        } }
+    {
+        Shelf {
+            files,
+            piece,
+            fails,
+            calls: 0,
+            place: None,
+            faults: 0,
+        }
+    }
+
+    /// Whether each name stands once, as `new` asks.
+    pub fn names_differ(files: &[(String, Vec<u8>)]) -> bool
+        ensures { IsTrue result ↔ NamesDiffer (held_of files.now) }
+    {
+        for (index, file) in files.iter().enumerate() {
+            if place_of(&files[index + 1..], file.0.as_str()).is_some() {
+                return false;
+            }
+        }
+        true
+    }
+
+    /// How many calls of `open` and `read` there were.
+    pub fn calls(&self) -> u64
+        ensures { result ≡ self.now.calls }
+    {
+        self.calls
+    }
+
+    /// How many of the calls were faults.
+    pub fn faults(&self) -> u64
+        ensures { result ≡ self.now.faults }
+    {
+        self.faults
+    }
+
+    /// Counts a fault.
+    fn fault(&mut self) -> Failed
+        ensures { self.new ≡ record self.old { faults = next_count self.old.faults } }
+    {
+        self.faults = self.faults.saturating_add(1);
+        Failed
+    }
+}
+
+impl Files for Shelf {
+    ghost held = { λ shelf. Some shelf.files };
+
+    ghost left = { λ shelf. shelf.left };
+
+    ghost is_open = { λ shelf. is_some shelf.left };
+
+    ghost faults = { λ shelf. shelf.faults };
+
+    /// Opens the file of this name. It fails exactly where the name is not held or the number of this call is listed,
+    /// and only the latter, of a name that is held, is a fault.
+    fn open(&mut self, name: &str) -> Result<(), Failed>
+        ensures keeps { KeepsShelf self.old self.new }
+        ensures calls { self.new.calls ≡ next_count self.old.calls }
+        ensures fails { IsErr result
+            ↔ ((file_of self.old.files name.now ≡ None) ⊎ Contains self.old.fails self.new.calls) }
+        ensures never_falls { self.old.faults ≤ self.new.faults }
+        ensures ok_open { OnOk result (IsSome self.new.left) }
+        ensures ok_left { OnOk result (self.new.left ≡ file_of self.old.files name.now) }
+        ensures ok_faults { OnOk result (self.new.faults ≡ self.old.faults) }
+        ensures err_left { OnErr result (self.new.left ≡ None) }
+        ensures lacks { file_of self.old.files name.now ≡ None → self.new.faults ≡ self.old.faults }
+        ensures err_faults { IsSome (file_of self.old.files name.now) →
+            OnErr result (self.new.faults ≡ next_count self.old.faults) }
+    {
+        self.calls = self.calls.saturating_add(1);
+        self.place = None;
+        let Some(file) = place_of(&self.files, name) else {
+            return Err(Failed);
+        };
+        if is_listed(&self.fails, self.calls) {
+            return Err(self.fault());
+        }
+        self.place = Some(Place { file, at: 0 });
+        Ok(())
+    }
+
+    /// Reads the next piece of the open file. It fails exactly where the number of this call is listed.
+    fn read(&mut self, into: &mut [u8]) -> Result<usize, Failed>
+        requires { IsSome self.old.left }
+        ensures keeps { KeepsShelf self.old self.new }
+        ensures calls { self.new.calls ≡ next_count self.old.calls }
+        ensures fails { IsErr result ↔ Contains self.old.fails self.new.calls }
+        ensures never_falls { self.old.faults ≤ self.new.faults }
+        ensures open { IsSome self.new.left }
+        ensures count { IfOk result (λ count. count ≡ read_length self.old into.new) }
+        ensures ok { IfOk result (λ count. Reads self.old.left self.new.left count into.new) }
+        ensures ok_faults { OnOk result (self.new.faults ≡ self.old.faults) }
+        ensures err_left { OnErr result (self.new.left ≡ self.old.left) }
+        ensures err_faults { OnErr result (self.new.faults ≡ next_count self.old.faults) }
+    {
+        self.calls = self.calls.saturating_add(1);
+        if is_listed(&self.fails, self.calls) {
+            return Err(self.fault());
+        }
+        let Some(place) = self.place else {
+            unreachable!()
+        };
+        let count = copy_piece(left_from(&self.files, place), into, self.piece);
+        self.place = Some(Place {
+            file: place.file,
+            at: place.at + count,
+        });
+        Ok(count)
+    }
+}
+
+/// The index of the first file of this name.
+fn place_of(files: &[(String, Vec<u8>)], name: &str) -> Option<usize>
+    ensures found { IfSome result (λ index.
+        (file_of (held_of files.now) name.now ≡ bytes_at files.now index) × (IsSome (bytes_at files.now index))) }
+    ensures none { IfNone result (file_of (held_of files.now) name.now ≡ None) }
+{
+    for (index, file) in files.iter().enumerate() {
+        if file.0.as_str() == name {
+            return Some(index);
+        }
+    }
+    None
+}
+
+/// The bytes of the open file from the place on.
+fn left_from(files: &[(String, Vec<u8>)], place: Place) -> &[u8]
+    requires { IsWithin files.now (Some place) }
+    ensures { left_at files.now (Some place) ≡ Some result.now }
+{
+    &files[place.file].1[place.at..]
+}
+
+/// Copies the front of `left` to the front of `into`, of at most `piece` bytes, and returns how many.
+fn copy_piece(left: &[u8], into: &mut [u8], piece: usize) -> usize
+    requires { 1 ≤ piece }
+    ensures count { result ≡ min piece (min (length into.new) (length left.now)) }
+    ensures front { take result into.new ≡ take result left.now }
+    ensures end { into.new ≢ [] → result ≡ 0 → left.now ≡ [] }
+{
+    let count = piece.min(into.len()).min(left.len());
+    into[..count].copy_from_slice(&left[..count]);
+    count
+}
