@@ -6,6 +6,8 @@ mod line;
 mod printer;
 mod properties;
 mod rows;
+#[cfg(test)]
+mod tests;
 mod value;
 
 pub use dump::print_graph;

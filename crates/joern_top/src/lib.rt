@@ -5,6 +5,8 @@ mod answer;
 mod file_graph;
 mod source;
 mod status;
+#[cfg(test)]
+mod tests;
 mod top;
 mod words;
 mod write;
