@@ -1,0 +1,9 @@
+pub mod Rows
+pub mod Parts
+pub mod Classes
+pub mod Tables
+pub mod Longest
+pub mod Places
+pub mod Steps
+pub mod OneReading
+pub mod SomeReading

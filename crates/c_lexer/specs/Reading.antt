@@ -1,0 +1,53 @@
+-- How a text is read: each token is the longest that stands at its place (C11 6.4p4).
+
+use Rattle.std.specs.Prelude.{ℕ, ◌≡◌, ◌+◌, ◌<◌, ◌≤◌, ◌==◌, List, [], ◌∷◌, length, take, count_by}
+use Rattle.std.specs.List.{after_last}
+use Rattle.c_lexer.specs.declared.token.Kind.{Kind}
+use Rattle.c_lexer.specs.declared.token.Token.{Token}
+use Rattle.c_lexer.specs.Bytes.{line_feed}
+use Rattle.c_lexer.specs.Spelling.{Spells}
+use Rattle.c_lexer.specs.Passing.{PassesAll}
+
+-- The line of a place: one more than the line feeds before it.
+abbrev pub line_at : List ℕ → ℕ → ℕ
+line_at bytes at = count_by (λ byte. byte == line_feed) (take at bytes) + 1
+
+-- The column of a place: one more than the bytes after the last line feed before it.
+abbrev pub column_at : List ℕ → ℕ → ℕ
+column_at bytes at = length (after_last (λ byte. byte == line_feed) (take at bytes)) + 1
+
+-- A token of the kind stands between the places, and no longer one begins there (6.4p4).
+pub record IsLongest (bytes : List ℕ) (from to : ℕ) (kind : Kind) : Type 0 where
+  pub some : from < to
+  pub within : to ≤ length bytes
+  pub spelled : Spells bytes from to kind
+  pub longest : (other : Kind) (past : ℕ) → to < past → past ≤ length bytes →
+      Spells bytes from past other → ⊥
+
+-- No token begins at the place.
+abbrev pub BeginsNoToken : List ℕ → ℕ → Type 0
+BeginsNoToken bytes at =
+    (kind : Kind) (to : ℕ) → at < to → to ≤ length bytes → Spells bytes at to kind → ⊥
+
+-- The token is the longest at its place, with the line and the column of that place.
+pub record IsTokenOf (bytes : List ℕ) (token : Token) : Type 0 where
+  pub longest : IsLongest bytes token.start token.end token.kind
+  pub line : token.line ≡ line_at bytes token.start
+  pub column : token.column ≡ column_at bytes token.start
+
+-- From `from` on the tokens follow each other, and the reading comes to `stop`, where no token
+-- begins.
+abbrev pub Reads : List ℕ → ℕ → List Token → ℕ → Type 0
+Reads bytes from [] stop = PassesAll bytes from stop × BeginsNoToken bytes stop
+Reads bytes from (token ∷ tokens) stop =
+    PassesAll bytes from token.start × IsTokenOf bytes token × Reads bytes token.end tokens stop
+
+-- The tokens spell the text: the reading comes to its end.
+abbrev pub AreTokensOf : List ℕ → List Token → Type 0
+AreTokensOf bytes tokens = Reads bytes 0 tokens (length bytes)
+
+-- The reading stops at the place, before the end of the text.
+pub record StopsAt (bytes : List ℕ) (at : ℕ) : Type 0 where
+  pub before_end : at < length bytes
+  pub tokens : List Token
+  pub reads : Reads bytes 0 tokens at

@@ -1,0 +1,30 @@
+//! Why a file has no tokens.
+
+use std::alloc::AllocFailed;
+use thiserror::Error;
+
+/// Where the reading of a file stops before its end.
+#[derive(Debug, Drop, PartialEq, Eq, Error)]
+pub enum LexStop {
+    /// No token begins with the byte at this position.
+    #[error("no token begins at byte {at}")]
+    BadByte { at: u32 },
+    /// What begins at this position does not end. This version reads nothing that could be left
+    /// open, so it does not come.
+    #[error("what begins at byte {at} does not end")]
+    Unclosed { at: u32 },
+    /// There was no memory for the tokens.
+    #[error("out of memory")]
+    Memory,
+}
+
+impl<T: Drop> From<AllocFailed<T>> for LexStop {
+    ghost use Rattle.std.specs.Prelude.{◌≡◌};
+    ghost use Rattle.c_lexer.specs.declared.error.LexStop.TheVariants.{Memory};
+
+    ghost from_gives = { λ _ stop. stop ≡ Memory };
+
+    fn from(_failed: AllocFailed<T>) -> LexStop {
+        LexStop::Memory
+    }
+}

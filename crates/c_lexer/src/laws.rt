@@ -1,0 +1,17 @@
+//! Laws of the reading of a text.
+
+ghost use Rattle.std.specs.Prelude.{◌≡◌, ◌⊎◌, ℕ, List};
+ghost use Rattle.c_lexer.specs.Reading.{AreTokensOf, StopsAt};
+ghost use Rattle.c_lexer.specs.declared.token.Token.{Token};
+
+/// A text has one reading: one list of tokens or one stop, and never both.
+pub fn law_one_reading()
+    ensures some_reading { (bytes : List ℕ) →
+        ((tokens : List Token) × AreTokensOf bytes tokens) ⊎ ((at : ℕ) × StopsAt bytes at) }
+    ensures one_list { (bytes : List ℕ) (first second : List Token) →
+        AreTokensOf bytes first → AreTokensOf bytes second → first ≡ second }
+    ensures one_stop { (bytes : List ℕ) (first second : ℕ) →
+        StopsAt bytes first → StopsAt bytes second → first ≡ second }
+    ensures never_both { (bytes : List ℕ) (tokens : List Token) (at : ℕ) →
+        AreTokensOf bytes tokens → StopsAt bytes at → ⊥ }
+{}
