@@ -4,7 +4,7 @@ use Rattle.cpg_schema.specs.declared.key.Key.{Key}
 use Rattle.cpg_schema.specs.declared.key.Key.TheVariants as key
 use Rattle.cpg_schema.specs.declared.edge_kind.EdgeKind.{EdgeKind}
 use Rattle.cpg_schema.specs.declared.edge_kind.EdgeKind.TheVariants as edge_kind
-use Rattle.cpg_schema.specs.Names.{label_name, key_name, kind_name, kind_place}
+use Rattle.cpg_schema.specs.Names.{label_name, key_name, kind_name}
 use Rattle.cpg_schema.specs.Graph.{PlainNode, PlainEdge, PlainGraph}
 use Rattle.cpg_schema.specs.Values.{escaped}
 use Rattle.cpg_schema.specs.Order.{in_order}

@@ -5,6 +5,9 @@
 mod edge_kind;
 mod key;
 mod label;
+pub mod laws;
+#[cfg(test)]
+mod tests;
 
 pub use edge_kind::EdgeKind;
 pub use key::Key;
