@@ -1,4 +1,4 @@
 pub mod Prefixes
 pub mod Composing
 pub mod Escaping
-pub mod RowByRow
+pub mod LineByLine

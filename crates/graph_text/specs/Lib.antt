@@ -1,3 +1,3 @@
 pub mod Printing
-pub mod Rows
-pub mod Pieces
+pub mod Views
+pub mod LineParts

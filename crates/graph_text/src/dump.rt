@@ -1,40 +1,40 @@
 ghost use Rattle.std.specs.Prelude.{◌≡◌, ◌≤◌, ◌++◌, flat_map, OnOk, OnErr};
 ghost use Rattle.joern_io.specs.Faults.{Rose};
 ghost use Rattle.joern_io.specs.Writing.{Appends, AppendsProperPrefix};
-ghost use Rattle.cpg_schema.specs.Lines.{node_line, node_lines, edge_line, variable_text, graph_text};
+ghost use Rattle.cpg_schema.specs.Lines.{node_line, node_lines, edge_line, variable_text, graph_lines};
 ghost use Rattle.cpg_schema.specs.Graph.{plain_graph};
 ghost use Rattle.cpg_schema.specs.Order.{in_order};
 ghost use Rattle.graph_text.specs.Printing.{output, Prints};
-ghost use Rattle.graph_text.specs.Rows.{plain_node, plain_edge};
+ghost use Rattle.graph_text.specs.Views.{plain_node, plain_edge};
 
 use crate::printer::Printer;
-use crate::rows::{EdgeRow, GraphRows, NodeRow};
+use crate::views::{EdgeView, GraphView, NodeView};
 use cpg_schema::EdgeKind;
 use joern_io::{Failed, Sink};
 
 impl Printer {
     /// Prints the line of a node.
-    fn node<S: Sink>(&mut self, sink: &mut S, id: u32, node: &NodeRow<'_>)
+    fn node<S: Sink>(&mut self, sink: &mut S, id: u32, node: &NodeView<'_>)
         ensures { Prints (output (S.took sink.old) (S.faults sink.old) self.old)
             (output (S.took sink.new) (S.faults sink.new) self.new) (node_line id (plain_node node.now)) }
     {
         self.text(sink, b"node ");
         self.number(sink, id);
         self.text(sink, b" ");
-        self.word(sink, node.label.name());
+        self.verbatim(sink, node.label.name());
         self.properties(sink, node);
         self.text(sink, b"\n");
     }
 
     /// Prints the line of an edge.
-    fn edge<S: Sink>(&mut self, sink: &mut S, edge: &EdgeRow<'_>)
+    fn edge<S: Sink>(&mut self, sink: &mut S, edge: &EdgeView<'_>)
         ensures { Prints (output (S.took sink.old) (S.faults sink.old) self.old)
             (output (S.took sink.new) (S.faults sink.new) self.new) (edge_line (plain_edge edge.now)) }
     {
         self.text(sink, b"edge ");
         self.number(sink, edge.from);
         self.text(sink, b" ");
-        self.word(sink, edge.kind.name());
+        self.verbatim(sink, edge.kind.name());
         self.text(sink, b" ");
         self.number(sink, edge.to);
         self.variable(sink, edge.kind, edge.variable);
@@ -58,14 +58,14 @@ impl Printer {
 /// Prints the lines of a graph whose edges stand in the order of printing. Takes no memory.
 ///
 /// `Failed` comes with a fault of the sink alone, at the first one, and a proper prefix of the lines was taken.
-pub fn print_graph<G: GraphRows, S: Sink>(graph: &G, sink: &mut S) -> Result<(), Failed>
+pub fn print_graph<G: GraphView, S: Sink>(graph: &G, sink: &mut S) -> Result<(), Failed>
     requires { in_order (G.edges graph.now) ≡ G.edges graph.now }
     ensures never_falls { S.faults sink.old ≤ S.faults sink.new }
     ensures ok { OnOk result (Appends (S.took sink.old) (S.took sink.new)
-        (graph_text (plain_graph (G.nodes graph.now) (G.edges graph.now)))) }
+        (graph_lines (plain_graph (G.nodes graph.now) (G.edges graph.now)))) }
     ensures err { OnErr result (Rose (S.faults sink.old) (S.faults sink.new)) }
     ensures err_prefix { OnErr result (AppendsProperPrefix (S.took sink.old) (S.took sink.new)
-        (graph_text (plain_graph (G.nodes graph.now) (G.edges graph.now)))) }
+        (graph_lines (plain_graph (G.nodes graph.now) (G.edges graph.now)))) }
 {
     let mut printer = Printer::new();
     printer.nodes(sink, graph);
@@ -75,7 +75,7 @@ pub fn print_graph<G: GraphRows, S: Sink>(graph: &G, sink: &mut S) -> Result<(),
 
 impl Printer {
     /// Prints the lines of all nodes.
-    fn nodes<G: GraphRows, S: Sink>(&mut self, sink: &mut S, graph: &G)
+    fn nodes<G: GraphView, S: Sink>(&mut self, sink: &mut S, graph: &G)
         ensures { Prints (output (S.took sink.old) (S.faults sink.old) self.old)
             (output (S.took sink.new) (S.faults sink.new) self.new) (node_lines 0 (G.nodes graph.now)) }
     {
@@ -85,7 +85,7 @@ impl Printer {
     }
 
     /// Prints the lines of all edges.
-    fn edges<G: GraphRows, S: Sink>(&mut self, sink: &mut S, graph: &G)
+    fn edges<G: GraphView, S: Sink>(&mut self, sink: &mut S, graph: &G)
         ensures { Prints (output (S.took sink.old) (S.faults sink.old) self.old)
             (output (S.took sink.new) (S.faults sink.new) self.new) (flat_map edge_line (G.edges graph.now)) }
     {

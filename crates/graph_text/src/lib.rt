@@ -5,11 +5,11 @@ mod dump;
 mod line;
 mod printer;
 mod properties;
-mod rows;
 #[cfg(test)]
 mod tests;
 mod value;
+mod views;
 
 pub use dump::print_graph;
-pub use line::{Piece, print_line};
-pub use rows::{EdgeRow, GraphRows, NodeRow};
+pub use line::{LinePart, print_line};
+pub use views::{EdgeView, GraphView, NodeView};

@@ -1,16 +1,16 @@
 ghost use Rattle.std.specs.Option.{option_copied};
 ghost use Rattle.cpg_schema.specs.Lines.{key_text, text_property, number_property, properties_text};
 ghost use Rattle.graph_text.specs.Printing.{output, Prints};
-ghost use Rattle.graph_text.specs.Rows.{plain_node};
+ghost use Rattle.graph_text.specs.Views.{plain_node};
 
 use crate::printer::Printer;
-use crate::rows::NodeRow;
+use crate::views::NodeView;
 use cpg_schema::Key;
 use joern_io::Sink;
 
 impl Printer {
     /// Prints the properties of a node, in the order of the keys.
-    pub(crate) fn properties<S: Sink>(&mut self, sink: &mut S, node: &NodeRow<'_>)
+    pub(crate) fn properties<S: Sink>(&mut self, sink: &mut S, node: &NodeView<'_>)
         ensures { Prints (output (S.took sink.old) (S.faults sink.old) self.old)
             (output (S.took sink.new) (S.faults sink.new) self.new) (properties_text (plain_node node.now)) }
     {
@@ -51,7 +51,7 @@ impl Printer {
             (output (S.took sink.new) (S.faults sink.new) self.new) (key_text key) }
     {
         self.text(sink, b" ");
-        self.word(sink, key.name());
+        self.verbatim(sink, key.name());
         self.text(sink, b"=");
     }
 }

@@ -2,69 +2,66 @@ ghost use Rattle.std.specs.Prelude.{◌≡◌, [], ◌∷◌, None, Some, codes}
 ghost use Rattle.cpg_schema.specs.declared.label.Label.TheVariants as label;
 ghost use Rattle.cpg_schema.specs.declared.edge_kind.EdgeKind.TheVariants as edge_kind;
 
-use crate::{EdgeRow, GraphRows, NodeRow, Piece, print_graph, print_line};
+use crate::{EdgeView, GraphView, LinePart, NodeView, print_graph, print_line};
 use cpg_schema::{EdgeKind, Label};
 use joern_io::{Failed, Tape};
 use std::test::Fail;
-
 
 /// Two nodes that have every property between them, and two edges: one with a variable.
 #[derive(Clone, Copy, Debug)]
 struct Sample;
 
-impl GraphRows for Sample {
-    ghost nodes = {
-      record {
-        label = label.ControlStructure;
-        name = Some (codes "L");
-        code = None;
-        filename = None;
-        line_number = Some 4294967295;
-        order = Some 2;
-        argument_index = None;
-        type_full_name = None;
-        control_structure_type = Some (codes "GOTO");
-        linkage = None;
-      } ∷ record {
-        label = label.Method;
-        name = None;
-        code = Some (codes "1 %");
-        filename = Some (codes "a.c");
-        line_number = None;
-        order = None;
-        argument_index = Some 0;
-        type_full_name = Some (codes "int");
-        control_structure_type = None;
-        linkage = Some (codes "internal");
-      } ∷ []
-    };
+impl GraphView for Sample {
+    ghost nodes = { λ _.
+        record {
+          label = label.ControlStructure;
+          name = Some (codes "L");
+          code = None;
+          filename = None;
+          line_number = Some 4294967295;
+          order = Some 2;
+          argument_index = None;
+          type_full_name = None;
+          control_structure_type = Some (codes "GOTO");
+          linkage = None;
+        } ∷ record {
+          label = label.Method;
+          name = None;
+          code = Some (codes "1 %");
+          filename = Some (codes "a.c");
+          line_number = None;
+          order = None;
+          argument_index = Some 0;
+          type_full_name = Some (codes "int");
+          control_structure_type = None;
+          linkage = Some (codes "internal");
+        } ∷ [] };
 
-    ghost edges = {
-      record { from = 0; kind = edge_kind.Ast; to = 1; variable = [] }
-      ∷ record { from = 1; kind = edge_kind.ReachingDef; to = 0; variable = codes "x" } ∷ []
-    };
+    ghost edges = { λ _.
+        record { from = 0; kind = edge_kind.Ast; to = 1; variable = [] }
+        ∷ record { from = 1; kind = edge_kind.ReachingDef; to = 0; variable = codes "x" } ∷ [] };
 
     fn node_count(&self) -> u32 {
         2
     }
 
-    fn node(&self, id: u32) -> NodeRow<'_> {
+    fn node(&self, id: u32) -> NodeView<'_> {
         if id == 0 {
-            NodeRow {
+            NodeView {
                 name: Some(b"L"),
                 line_number: Some(u32::MAX),
                 order: Some(2),
                 control_structure_type: Some(b"GOTO"),
-                ..NodeRow::bare(Label::ControlStructure)
+                ..NodeView::bare(Label::ControlStructure)
             }
         } else {
-            NodeRow {
+            NodeView {
                 code: Some(b"1 %"),
                 filename: Some(b"a.c"),
                 argument_index: Some(0),
                 type_full_name: Some(b"int"),
                 linkage: Some(b"internal"),
-                ..NodeRow::bare(Label::Method)
+                ..NodeView::bare(Label::Method)
             }
         }
     }
@@ -73,16 +70,16 @@ impl GraphRows for Sample {
         2
     }
 
-    fn edge(&self, place: u32) -> EdgeRow<'_> {
+    fn edge(&self, place: u32) -> EdgeView<'_> {
         if place == 0 {
-            EdgeRow {
+            EdgeView {
                 from: 0,
                 kind: EdgeKind::Ast,
                 to: 1,
                 variable: b"",
             }
         } else {
-            EdgeRow {
+            EdgeView {
                 from: 1,
                 kind: EdgeKind::ReachingDef,
                 to: 0,
@@ -93,7 +90,8 @@ impl GraphRows for Sample {
 }
 
 /// The lines of the sample.
-const LINES: &str = "node 0 CONTROL_STRUCTURE NAME=L LINE_NUMBER=4294967295 ORDER=2 CONTROL_STRUCTURE_TYPE=GOTO\n\
+const LINES: &str =
+    "node 0 CONTROL_STRUCTURE NAME=L LINE_NUMBER=4294967295 ORDER=2 CONTROL_STRUCTURE_TYPE=GOTO\n\
     node 1 METHOD CODE=1%20%25 FILENAME=a.c ARGUMENT_INDEX=0 TYPE_FULL_NAME=int LINKAGE=internal\n\
     edge 0 AST 1\n\
     edge 1 REACHING_DEF 0 VARIABLE=x\n";
@@ -131,7 +129,7 @@ fn a_value_is_escaped_byte_by_byte(rt: HostRuntime) -> Result<(), Fail> {
     ];
     for (bytes, want) in cases {
         let mut tape = Tape::new(rt.alloc(), 64, 64, Vec::new(rt.alloc()))?;
-        assert_eq!(rt; print_line(&[Piece::Value(bytes)], &mut tape), Ok(()));
+        assert_eq!(rt; print_line(&[LinePart::Value(bytes)], &mut tape), Ok(()));
         assert_eq!(rt; tape.took(), want.as_bytes(), "{bytes:?}");
     }
     Ok(())
@@ -143,10 +141,10 @@ fn a_line_longer_than_the_buffer_is_printed_whole(rt: HostRuntime) -> Result<(),
     let long = Vec::from_elem(rt.alloc(), b'a', 20_000)?;
     let mut tape = Tape::new(rt.alloc(), 50_000, 4096, Vec::new(rt.alloc()))?;
     let line = [
-        Piece::Number(7),
-        Piece::Value(&long),
-        Piece::Word(" "),
-        Piece::Value(&long[..8191]),
+        LinePart::Number(7),
+        LinePart::Value(&long),
+        LinePart::Verbatim(" "),
+        LinePart::Value(&long[..8191]),
     ];
     assert_eq!(rt; print_line(&line, &mut tape), Ok(()));
     let took = tape.took();

@@ -74,12 +74,12 @@ impl Printer {
         self.text(sink, &[b'%', hex(byte / 16), hex(byte % 16)]);
     }
 
-    /// Prints a word as it is.
-    pub(crate) fn word<S: Sink>(&mut self, sink: &mut S, word: &str)
+    /// Prints a text as it is.
+    pub(crate) fn verbatim<S: Sink>(&mut self, sink: &mut S, text: &str)
         ensures { Prints (output (S.took sink.old) (S.faults sink.old) self.old)
-            (output (S.took sink.new) (S.faults sink.new) self.new) word.now }
+            (output (S.took sink.new) (S.faults sink.new) self.new) text.now }
     {
-        self.text(sink, word.as_bytes());
+        self.text(sink, text.as_bytes());
     }
 
     /// Prints a number in decimal digits.
@@ -88,6 +88,6 @@ impl Printer {
             (output (S.took sink.new) (S.faults sink.new) self.new) (decimal n) }
     {
         let mut digits = Buffer::new();
-        self.word(sink, digits.format(n));
+        self.verbatim(sink, digits.format(n));
     }
 }

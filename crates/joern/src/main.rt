@@ -3,9 +3,9 @@
 
 use joern_io::{DiskFiles, StdSink};
 use joern_top::joern_one;
+use std::env;
 use std::io::{self, ErrorKind};
 use std::process::ExitCode;
-use std::env;
 
 /// The status of words that are not UTF-8.
 const NOT_UTF8: u8 = 12;

@@ -14,6 +14,7 @@ use Rattle.joern_top.specs.Run.{Outcome, joern_out, command_outcome, dump_outcom
 use Rattle.joern_top.specs.Answers.{outcome_of, IsDecided, Writes}
 use Rattle.joern_top.specs.Headline.{IsReadable, CanAnswer, Completes}
 use Rattle.joern_top.proofs.Deciding.{Decides, Blames}
+use Rattle.joern_top.proofs.WriteFaults.{outcome_of_lacking}
 
 -- an accepted file within the limit
 dump_answers : (name bytes : List ℕ) → length bytes ≤ max_file_bytes → IsTrue (is_accepted bytes) → (dump_outcome name (Some bytes)).status ≡ status.Ok
@@ -28,42 +29,29 @@ command_answers (Some (Dump name)) held commanded readable accepted =
     let (bytes, there, small) : IsReadable held name = readable 0 [] (omega arith) in
     ap (λ file. (dump_outcome name file).status) there ∙ dump_answers name bytes small (accepted name bytes (0, omega arith, refl) there)
 
--- a file that the command reads is held
-no_lack : (words : List (List ℕ)) (held : Held) (name : List ℕ) → CanAnswer words held → command words ≡ Some (Dump name) → file_of held name ≡ None → ⊥
-no_lack words held name can commanded lacks =
-    let P : Option Command → Type 0 = λ c. All (IsReadable held) (files_of c) in
-    let readable : IsReadable held name = (subst P commanded can.readable) 0 [] (omega arith) in
-    let there = readable.1 in
-    cc (there, lacks)
+-- where each source is accepted the outcome is Ok
+pub can_answer : (words : List (List ℕ)) (held : Held) → CanAnswer words held → (joern_out words held).status ≡ status.Ok
+can_answer words held can = command_answers (command words) held can.commanded can.readable can.accepted
 
--- what was decided is then Ok
-decided_is_ok : (words : List (List ℕ)) (held : Held) (a : Answer) (end : Status) → CanAnswer words held → outcome_of a ≡ joern_out words held →
-    end ≡ (outcome_of a).status → end ≡ status.Ok
-decided_is_ok words held a end can decided same =
-    same ∙ ap (λ (o : Outcome). o.status) decided ∙ command_answers (command words) held can.commanded can.readable can.accepted
-
+-- what was decided, and written whole, is the rules'
 completes_written : (words : List (List ℕ)) (held : Held) (faults_before faults : ℕ) (a : Answer) (end : Status) →
-    (IsDecided a → outcome_of a ≡ joern_out words held) → Blames words (Some held) faults_before faults a → CanAnswer words held →
-    ¬ Rose faults_before faults → end ≡ (outcome_of a).status → (end ≡ status.Ok) ⊎ (end ≡ status.NoMemory)
-completes_written words held faults_before faults (answer.ReadFault name) end decided (commanded, inl rose) can no_fault same = absurd (no_fault rose)
-completes_written words held faults_before faults (answer.ReadFault name) end decided (commanded, inr lacks) can no_fault same =
-    absurd (no_lack words held name.now can commanded lacks)
-completes_written words held faults_before faults answer.NoMemory end decided blames can no_fault same = inr same
-completes_written words held faults_before faults answer.Usage end decided blames can no_fault same =
-    inl (decided_is_ok words held answer.Usage end can (decided tt) same)
-completes_written words held faults_before faults answer.TooLarge end decided blames can no_fault same =
-    inl (decided_is_ok words held answer.TooLarge end can (decided tt) same)
-completes_written words held faults_before faults (answer.Unbuilt name) end decided blames can no_fault same =
-    inl (decided_is_ok words held (answer.Unbuilt name) end can (decided tt) same)
-completes_written words held faults_before faults (answer.Dump name) end decided blames can no_fault same =
-    inl (decided_is_ok words held (answer.Dump name) end can (decided tt) same)
+    (IsDecided a → outcome_of a ≡ joern_out words held) → Blames words (Some held) faults_before faults a →
+    ¬ Rose faults_before faults → end ≡ (outcome_of a).status → (end ≡ (joern_out words held).status) ⊎ (end ≡ status.NoMemory)
+completes_written words held faults_before faults (answer.ReadFault name) end decided (commanded, inl rose) no_fault same = absurd (no_fault rose)
+completes_written words held faults_before faults (answer.ReadFault name) end decided (commanded, inr lacks) no_fault same =
+    inl (same ∙ sym (ap (λ (o : Outcome). o.status) (outcome_of_lacking words held name.now commanded lacks)))
+completes_written words held faults_before faults answer.NoMemory end decided blames no_fault same = inr same
+completes_written words held faults_before faults answer.Usage end decided blames no_fault same = inl (same ∙ ap (λ (o : Outcome). o.status) (decided tt))
+completes_written words held faults_before faults answer.TooLarge end decided blames no_fault same = inl (same ∙ ap (λ (o : Outcome). o.status) (decided tt))
+completes_written words held faults_before faults (answer.Unbuilt name) end decided blames no_fault same = inl (same ∙ ap (λ (o : Outcome). o.status) (decided tt))
+completes_written words held faults_before faults (answer.Dump name) end decided blames no_fault same = inl (same ∙ ap (λ (o : Outcome). o.status) (decided tt))
 
 pub completes : (words : List (List ℕ)) (held : Option Held) (faults_before faults : ℕ) (a : Answer) (end : Status)
     (before now : Option (List ℕ)) (writes_before writes : ℕ) →
     Decides words held a → Blames words held faults_before faults a → Writes (outcome_of a) before now writes_before writes end →
     Completes words held faults_before faults writes_before writes end
 completes words None faults_before faults a end before now writes_before writes decided blames written = tt
-completes words (Some held) faults_before faults a end before now writes_before writes decided blames (inl (same, taken)) = λ can no_read no_write.
-    completes_written words held faults_before faults a end decided blames can no_read same
-completes words (Some held) faults_before faults a end before now writes_before writes decided blames (inr (same, rose, taken)) = λ can no_read no_write.
+completes words (Some held) faults_before faults a end before now writes_before writes decided blames (inl (same, taken)) = λ no_read no_write.
+    completes_written words held faults_before faults a end decided blames no_read same
+completes words (Some held) faults_before faults a end before now writes_before writes decided blames (inr (same, rose, taken)) = λ no_read no_write.
     absurd (no_write rose)

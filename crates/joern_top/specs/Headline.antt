@@ -54,13 +54,15 @@ abbrev pub WriteFaultPrefix : List (List ℕ) → Option Held → ℕ → ℕ �
 WriteFaultPrefix words held faults_before faults end before now =
     IfSome held (λ held. end ≡ status.WriteFault → WritesPrefix words held faults_before faults before now)
 
+-- Where no count of faults rose the rules' status comes, unless memory is wanting.
+abbrev pub Completes : List (List ℕ) → Option Held → ℕ → ℕ → ℕ → ℕ → Status → Type 0
+Completes words held read_before read write_before write end =
+    IfSome held (λ held. ¬ Rose read_before read → ¬ Rose write_before write →
+    (end ≡ (joern_out words held).status) ⊎ (end ≡ status.NoMemory))
+
 -- The words give a command, each of its files is held and within the limit, and each source is accepted.
 pub record CanAnswer (words : List (List ℕ)) (held : Held) : Type 0 where
   pub commanded : IsSome (command words)
   pub readable : All (IsReadable held) (files_of (command words))
-  pub accepted : (name bytes : List ℕ) → Contains (files_of (command words)) name → file_of held name ≡ Some bytes → IsTrue (is_accepted bytes)
-
--- Where the rules can answer and no count of faults rose, the run answers, unless memory is wanting.
-abbrev pub Completes : List (List ℕ) → Option Held → ℕ → ℕ → ℕ → ℕ → Status → Type 0
-Completes words held read_before read write_before write end = IfSome held (λ held. CanAnswer words held →
-    ¬ Rose read_before read → ¬ Rose write_before write → (end ≡ status.Ok) ⊎ (end ≡ status.NoMemory))
+  pub accepted : (name bytes : List ℕ) → Contains (files_of (command words)) name → file_of held name ≡ Some bytes →
+      IsTrue (is_accepted bytes)

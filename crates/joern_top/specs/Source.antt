@@ -6,9 +6,20 @@ use Rattle.std.specs.List.{list_all}
 abbrev pub max_file_bytes : ℕ
 max_file_bytes = 16777216
 
--- space, tab, line feed, vertical tab, form feed or carriage return (C11 6.4 p3)
+-- a space
+abbrev pub space : ℕ
+space = 32
+
+-- tab, line feed, vertical tab, form feed and carriage return are the bytes from 9 to 13
+abbrev pub tab : ℕ
+tab = 9
+
+abbrev pub carriage_return : ℕ
+carriage_return = 13
+
+-- white space (C11 6.4 p3), and ours the carriage return
 abbrev pub is_blank : ℕ → Bool
-is_blank byte = byte == 32 || nat_le 9 byte && nat_le byte 13
+is_blank byte = byte == space || (nat_le tab byte && nat_le byte carriage_return)
 
 -- a text of blanks alone
 abbrev pub is_accepted : List ℕ → Bool

@@ -1,7 +1,7 @@
 ghost use Rattle.joern_top.specs.SyntaxLayer.{file_nodes, file_edges};
 
 use cpg_schema::{EdgeKind, Label};
-use graph_text::{EdgeRow, GraphRows, NodeRow};
+use graph_text::{EdgeView, GraphView, NodeView};
 
 /// The syntax layer of a file without tokens: the method `<global>` with its block and its return.
 #[derive(Clone, Copy, Debug)]
@@ -9,7 +9,7 @@ pub(crate) struct FileGraph<'a> {
     pub(crate) name: &'a str,
 }
 
-impl GraphRows for FileGraph<'_> {
+impl GraphView for FileGraph<'_> {
     ghost nodes = { λ graph. file_nodes graph.name.now };
 
     ghost edges = { λ _. file_edges };
@@ -18,25 +18,25 @@ impl GraphRows for FileGraph<'_> {
         3
     }
 
-    fn node(&self, id: u32) -> NodeRow<'_> {
+    fn node(&self, id: u32) -> NodeView<'_> {
         match id {
-            0 => NodeRow {
+            0 => NodeView {
                 name: Some(b"<global>"),
                 filename: Some(self.name.as_bytes()),
                 line_number: Some(1),
                 order: Some(1),
-                ..NodeRow::bare(Label::Method)
+                ..NodeView::bare(Label::Method)
             },
-            1 => NodeRow {
+            1 => NodeView {
                 line_number: Some(1),
                 order: Some(1),
-                ..NodeRow::bare(Label::Block)
+                ..NodeView::bare(Label::Block)
             },
-            _ => NodeRow {
+            _ => NodeView {
                 line_number: Some(1),
                 order: Some(2),
                 type_full_name: Some(b"void"),
-                ..NodeRow::bare(Label::MethodReturn)
+                ..NodeView::bare(Label::MethodReturn)
             },
         }
     }
@@ -45,8 +45,8 @@ impl GraphRows for FileGraph<'_> {
         2
     }
 
-    fn edge(&self, place: u32) -> EdgeRow<'_> {
-        EdgeRow {
+    fn edge(&self, place: u32) -> EdgeView<'_> {
+        EdgeView {
             from: 0,
             kind: EdgeKind::Ast,
             to: place + 1,

@@ -3,6 +3,7 @@
 
 mod answer;
 mod file_graph;
+pub mod laws;
 mod source;
 mod status;
 #[cfg(test)]

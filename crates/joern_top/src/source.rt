@@ -11,9 +11,9 @@ pub(crate) fn accepts(bytes: &[u8]) -> bool
     bytes.iter().all(|byte| is_blank_byte(*byte))
 }
 
-/// Space, tab, line feed, vertical tab, form feed or carriage return (C11 6.4 p3).
+/// Space, tab, line feed, vertical tab or form feed (C11 6.4 p3), or carriage return, which is ours.
 fn is_blank_byte(byte: u8) -> bool
     ensures { result ≡ is_blank byte }
 {
-    byte == b' ' || (9 <= byte && byte <= 13)
+    byte == b' ' || (b'\t' <= byte && byte <= b'\r')
 }

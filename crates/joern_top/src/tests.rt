@@ -14,12 +14,7 @@ struct Run {
 }
 
 /// A shelf of the file `a.c` with these bytes.
-fn shelf(
-    alloc: Global,
-    bytes: Vec<u8>,
-    piece: usize,
-    fails: &[u32],
-) -> Result<Shelf, AllocError>
+fn shelf(alloc: Global, bytes: Vec<u8>, piece: usize, fails: &[u32]) -> Result<Shelf, AllocError>
     requires { 1 ≤ piece }
 {
     let mut files = Vec::new(alloc);
@@ -62,13 +57,22 @@ fn a_file_without_tokens_has_three_nodes_and_two_edges(rt: HostRuntime) -> Resul
         assert_eq!(rt; run.status, Status::Ok, "{bytes:?}");
         assert_eq!(rt; run.status.code(), 0);
         assert_eq!(rt; run.out.took(), DUMP.as_bytes(), "{bytes:?}");
+        // One call opens the file, and one finds its end behind the piece with its bytes.
+        assert_eq!(rt; run.files.calls(), if bytes.is_empty() { 2 } else { 3 });
     }
     Ok(())
 }
 
 #[test]
 fn a_file_with_a_token_is_unbuilt(rt: HostRuntime) -> Result<(), Fail> {
-    let cases: [&[u8]; 6] = [b"x", b" ;", b"\n\n$", b"\x08", b"\x0E", b"int f(void){x=1;}"];
+    let cases: [&[u8]; 6] = [
+        b"x",
+        b" ;",
+        b"\n\n$",
+        b"\x08",
+        b"\x0E",
+        b"int f(void){x=1;}",
+    ];
     for bytes in cases {
         let files = shelf(rt.alloc(), Vec::from_slice(rt.alloc(), bytes)?, 8, &[])?;
         let run = run_on(rt.alloc(), &["--do", "dump", "a.c"], files, 64, &[])?;
@@ -79,7 +83,11 @@ fn a_file_with_a_token_is_unbuilt(rt: HostRuntime) -> Result<(), Fail> {
         };
         assert_eq!(rt; run.status, refused, "{bytes:?}");
         assert_eq!(rt; run.status.code(), 3);
-        assert_eq!(rt; run.out.took(), b"refused a.c:1:1 unbuilt\n".as_slice(), "{bytes:?}");
+        assert_eq!(rt;
+            run.out.took(),
+            b"refused a.c:1:1 unbuilt\n".as_slice(),
+            "{bytes:?}"
+        );
     }
     Ok(())
 }
@@ -120,7 +128,11 @@ fn a_file_that_cannot_be_read_is_named(rt: HostRuntime) -> Result<(), Fail> {
         let bytes = Vec::from_elem(rt.alloc(), b' ', 17)?;
         let files = shelf(rt.alloc(), bytes, 8, &[fails])?;
         let run = run_on(rt.alloc(), &["--do", "dump", name], files, 64, &[])?;
-        assert_eq!(rt; run.status, Status::ReadFault { name: 0 }, "{name}, call {fails}");
+        assert_eq!(rt;
+            run.status,
+            Status::ReadFault { name: 0 },
+            "{name}, call {fails}"
+        );
         assert_eq!(rt; run.status.code(), 6);
         assert_eq!(rt; run.out.took(), line, "{name}, call {fails}");
         assert_eq!(rt; run.files.faults(), faults, "{name}, call {fails}");
@@ -149,7 +161,9 @@ fn a_refusal_that_cannot_be_written_is_a_write_fault(rt: HostRuntime) -> Result<
 }
 
 #[test]
-fn a_file_past_the_limit_is_refused_and_one_at_the_limit_is_not(rt: HostRuntime) -> Result<(), Fail> {
+fn a_file_past_the_limit_is_refused_and_one_at_the_limit_is_not(
+    rt: HostRuntime,
+) -> Result<(), Fail> {
     let limit = MAX_FILE_BYTES as usize;
     let past = Status::Limit {
         what: What::FileBytes,

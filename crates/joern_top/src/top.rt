@@ -1,6 +1,9 @@
 ghost use Rattle.std.specs.Prelude.{◌≡◌, ◌≤◌, ◌⊎◌, map, string_bytes, IsNone};
 ghost use Rattle.joern_io.specs.Faults.{Rose};
+ghost use Rattle.joern_io.specs.Writing.{Appends};
+ghost use Rattle.joern_top.specs.Status.{IsAnswer};
 ghost use Rattle.joern_top.specs.Words.{command};
+ghost use Rattle.joern_top.specs.Refusals.{usage_line};
 ghost use Rattle.joern_top.specs.Headline.{StatusIsTheRules, BytesAreTheRules, ReadFaultHasCause, ReadFaultLine, WriteFaultPrefix, Completes};
 
 use crate::answer::{Answer, decide};
@@ -20,7 +23,8 @@ pub fn joern_one<F: Files, S: Sink>(
 ) -> Status
     // An answer, which is every status but a fault and want of memory, is the rules' answer, and so are the bytes.
     ensures status { StatusIsTheRules (map string_bytes words.now) (F.held files.old) result }
-    ensures bytes { BytesAreTheRules (map string_bytes words.now) (F.held files.old) result (S.took out.old) (S.took out.new) }
+    ensures bytes { BytesAreTheRules (map string_bytes words.now) (F.held files.old) result
+        (S.took out.old) (S.took out.new) }
 
     // A file could not be read: a device failed or the file is not held.
     ensures read_fault { ReadFaultHasCause (map string_bytes words.now)
@@ -35,14 +39,15 @@ pub fn joern_one<F: Files, S: Sink>(
     // Memory is wanting: nothing was written.
     ensures no_memory { result ≡ Status.NoMemory → out.new ≡ out.old }
 
-    // Without a fault the rules' answer comes, unless memory is wanting.
+    // Without a fault the rules' status comes, unless memory is wanting.
     ensures complete { Completes (map string_bytes words.now) (F.held files.old)
         (F.faults files.old) (F.faults files.new) (S.faults out.old) (S.faults out.new) result }
 
-    // Words that give no command are answered by Usage, and nothing is opened; other words are not.
+    // Words that give no command open nothing, and are answered by Usage alone; other words never are.
     ensures usage { result ≡ Status.Usage → IsNone (command (map string_bytes words.now)) }
-    ensures no_command { IsNone (command (map string_bytes words.now)) →
-        (files.new ≡ files.old) × ((result ≡ Status.Usage) ⊎ (result ≡ Status.WriteFault)) }
+    ensures usage_line { result ≡ Status.Usage → Appends (S.took out.old) (S.took out.new) usage_line }
+    ensures no_command { IsNone (command (map string_bytes words.now)) → IsAnswer result → result ≡ Status.Usage }
+    ensures untouched { IsNone (command (map string_bytes words.now)) → files.new ≡ files.old }
 
     ensures held { F.held files.new ≡ F.held files.old }
     ensures reads_never_fall { F.faults files.old ≤ F.faults files.new }

@@ -1,5 +1,5 @@
 use Rattle.cpg_schema.specs.Lines.{edge_line}
-use Rattle.graph_text.proofs.RowByRow.{flat_map-take-one}
+use Rattle.graph_text.proofs.LineByLine.{flat_map-take-one}
 use Rattle.graph_text.proofs.Composing.{Prints-then}
 use Rattle.graph_text.proofs.printer.Printer.edges.Goals as goal
 

@@ -1,4 +1,4 @@
-use Rattle.graph_text.proofs.RowByRow.{node_lines-take-one}
+use Rattle.graph_text.proofs.LineByLine.{node_lines-take-one}
 use Rattle.graph_text.proofs.Composing.{Prints-then}
 use Rattle.graph_text.proofs.printer.Printer.nodes.Goals as goal
 

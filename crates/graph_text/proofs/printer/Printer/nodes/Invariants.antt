@@ -7,4 +7,4 @@ use Rattle.graph_text.proofs.printer.Printer.nodes.Given as goal
 -- the lines so far were printed
 abbrev pub invariant-loop-id : goal.invariant-loop-id
 invariant-loop-id g l = Prints (output (g.S.Sink.took l.fn.sink) (g.S.Sink.faults l.fn.sink) l.fn.self)
-    (output (g.S.Sink.took l.sink) (g.S.Sink.faults l.sink) l.self) (node_lines 0 (take l.id (g.G.GraphRows.nodes l.graph)))
+    (output (g.S.Sink.took l.sink) (g.S.Sink.faults l.sink) l.self) (node_lines 0 (take l.id (g.G.GraphView.nodes l.graph)))

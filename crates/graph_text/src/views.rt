@@ -1,12 +1,12 @@
 ghost use Rattle.std.specs.Prelude.{◌≡◌, ◌<◌, List, length, slice_get, Some};
 ghost use Rattle.cpg_schema.specs.Graph.{PlainNode, PlainEdge, bare_node};
-ghost use Rattle.graph_text.specs.Rows.{plain_node, plain_edge};
+ghost use Rattle.graph_text.specs.Views.{plain_node, plain_edge};
 
 use cpg_schema::{EdgeKind, Label};
 
 /// A node with its properties, as it is printed.
 #[derive(Clone, Copy, Debug)]
-pub struct NodeRow<'a> {
+pub struct NodeView<'a> {
     pub label: Label,
     pub name: Option<&'a [u8]>,
     pub code: Option<&'a [u8]>,
@@ -19,12 +19,12 @@ pub struct NodeRow<'a> {
     pub linkage: Option<&'a [u8]>,
 }
 
-impl<'a> NodeRow<'a> {
+impl<'a> NodeView<'a> {
     /// A node without properties.
-    pub fn bare(label: Label) -> NodeRow<'a>
+    pub fn bare(label: Label) -> NodeView<'a>
         ensures { plain_node result ≡ bare_node label }
     {
-        NodeRow {
+        NodeView {
             label,
             name: None,
             code: None,
@@ -41,7 +41,7 @@ impl<'a> NodeRow<'a> {
 
 /// An edge, as it is printed. The variable is empty, except on a `ReachingDef`.
 #[derive(Clone, Copy, Debug)]
-pub struct EdgeRow<'a> {
+pub struct EdgeView<'a> {
     pub from: u32,
     pub kind: EdgeKind,
     pub to: u32,
@@ -49,7 +49,7 @@ pub struct EdgeRow<'a> {
 }
 
 /// A graph that gives its nodes by their numbers, and its edges in the order of printing.
-pub trait GraphRows {
+pub trait GraphView {
     ghost nodes: { Self → List PlainNode };
 
     ghost edges: { Self → List PlainEdge };
@@ -59,7 +59,7 @@ pub trait GraphRows {
         ensures { result ≡ length (nodes self.now) };
 
     /// The node of this number.
-    fn node(&self, id: u32) -> NodeRow<'_>
+    fn node(&self, id: u32) -> NodeView<'_>
         requires { id < length (nodes self.now) }
         ensures { slice_get (nodes self.now) id ≡ Some (plain_node result) };
 
@@ -68,7 +68,7 @@ pub trait GraphRows {
         ensures { result ≡ length (edges self.now) };
 
     /// The edge at this place.
-    fn edge(&self, place: u32) -> EdgeRow<'_>
+    fn edge(&self, place: u32) -> EdgeView<'_>
         requires { place < length (edges self.now) }
         ensures { slice_get (edges self.now) place ≡ Some (plain_edge result) };
 }

@@ -1,0 +1,5 @@
+use Rattle.joern_top.proofs.Completing.{can_answer}
+use Rattle.joern_top.proofs.laws.law_can_answer.Goals as goal
+
+pub returns : goal.returns
+returns c = can_answer
