@@ -48,10 +48,10 @@ impl Model for Shelf {
 }
 
 impl Shelf {
-    /// A shelf of these files by name, of which none is open.
+    /// A shelf of these files by name, of which none is open. `names_differ` tests what it asks of the names.
     ///
     /// A read gives at most `piece` bytes. `fails` lists the numbers of the calls that fail: the calls of `open` and
-    /// of `read` are numbered together, from 1.
+    /// of `read` are numbered together, from 1. A call of a name that is not held has a number too.
     pub fn new(files: Vec<(String, Vec<u8>)>, piece: usize, fails: Vec<u32>) -> Shelf
         requires names { NamesDiffer (held_of files.items) }
         requires piece { 1 ≤ piece }
@@ -122,14 +122,20 @@ impl Files for Shelf {
     /// and only the latter, of a name that is held, is a fault.
     fn open(&mut self, name: &str) -> Result<(), Failed>
         ensures keeps { KeepsShelf self.old self.new }
+
+        // The number of this call is the count of calls with it.
         ensures calls { self.new.calls ≡ next_count self.old.calls }
         ensures fails { IsErr result
             ↔ ((file_of self.old.files name.now ≡ None) ⊎ Contains self.old.fails self.new.calls) }
-        ensures never_falls { self.old.faults ≤ self.new.faults }
+
+        // What is left to be read.
         ensures ok_open { OnOk result (IsSome self.new.left) }
         ensures ok_left { OnOk result (self.new.left ≡ file_of self.old.files name.now) }
-        ensures ok_faults { OnOk result (self.new.faults ≡ self.old.faults) }
         ensures err_left { OnErr result (self.new.left ≡ None) }
+
+        // The count of faults.
+        ensures never_falls { self.old.faults ≤ self.new.faults }
+        ensures ok_faults { OnOk result (self.new.faults ≡ self.old.faults) }
         ensures lacks { file_of self.old.files name.now ≡ None → self.new.faults ≡ self.old.faults }
         ensures err_faults { IsSome (file_of self.old.files name.now) →
             OnErr result (self.new.faults ≡ next_count self.old.faults) }
@@ -150,14 +156,20 @@ impl Files for Shelf {
     fn read(&mut self, into: &mut [u8]) -> Result<usize, Failed>
         requires { IsSome self.old.left }
         ensures keeps { KeepsShelf self.old self.new }
+
+        // The number of this call is the count of calls with it.
         ensures calls { self.new.calls ≡ next_count self.old.calls }
         ensures fails { IsErr result ↔ Contains self.old.fails self.new.calls }
-        ensures never_falls { self.old.faults ≤ self.new.faults }
-        ensures open { IsSome self.new.left }
+
+        // What is read, and what is left.
         ensures count { IfOk result (λ count. count ≡ read_length self.old into.new) }
         ensures ok { IfOk result (λ count. Reads self.old.left self.new.left count into.new) }
-        ensures ok_faults { OnOk result (self.new.faults ≡ self.old.faults) }
+        ensures open { IsSome self.new.left }
         ensures err_left { OnErr result (self.new.left ≡ self.old.left) }
+
+        // The count of faults.
+        ensures never_falls { self.old.faults ≤ self.new.faults }
+        ensures ok_faults { OnOk result (self.new.faults ≡ self.old.faults) }
         ensures err_faults { OnErr result (self.new.faults ≡ next_count self.old.faults) }
     {
         self.calls = self.calls.saturating_add(1);

@@ -1,4 +1,4 @@
-ghost use Rattle.std.specs.Prelude.{◌≡◌, ◌≢◌, ◌<◌, ◌≤◌, ◌⊎◌, ◌↔◌, ◌++◌, Some, Ok, [], min, take, length, Contains, IsErr, IfOk, OnOk, OnErr};
+ghost use Rattle.std.specs.Prelude.{◌≡◌, ◌<◌, ◌≤◌, ◌⊎◌, ◌↔◌, ◌++◌, Some, Ok, [], min, take, length, Contains, IsErr, IfOk, OnOk, OnErr};
 ghost use Rattle.joern_io.specs.Faults.{next_count};
 ghost use Rattle.joern_io.specs.Tape.{room_left, KeepsTape};
 
@@ -102,17 +102,23 @@ impl Sink for Tape {
     /// this write is listed or no room is left; that is a fault.
     fn write(&mut self, piece: &[u8]) -> Result<usize, Failed>
         ensures keeps { KeepsTape self.old self.new }
-        ensures empty { piece.now ≡ [] → (result ≡ Ok 0) × (self.new ≡ self.old) }
-        ensures writes { piece.now ≢ [] → self.new.writes ≡ next_count self.old.writes }
+        ensures empty { length piece.now ≡ 0 → (result ≡ Ok 0) × (self.new ≡ self.old) }
+
+        // The number of a write of a piece that is not empty is the count of such writes with it.
+        ensures writes { 0 < length piece.now → self.new.writes ≡ next_count self.old.writes }
         ensures fails { IsErr result ↔ ((0 < length piece.now)
             × (Contains self.old.fails self.new.writes ⊎ (room_left self.old ≡ 0))) }
-        ensures never_falls { self.old.faults ≤ self.new.faults }
-        ensures progress { IfOk result (λ count. 0 < length piece.now → 0 < count) }
+
+        // What is taken.
         ensures count { IfOk result (λ count.
             count ≡ min self.old.piece (min (length piece.now) (room_left self.old))) }
+        ensures progress { IfOk result (λ count. 0 < length piece.now → 0 < count) }
         ensures ok_took { IfOk result (λ count. self.new.took ≡ self.old.took ++ take count piece.now) }
-        ensures ok_faults { OnOk result (self.new.faults ≡ self.old.faults) }
         ensures err_took { OnErr result (self.new.took ≡ self.old.took) }
+
+        // The count of faults.
+        ensures never_falls { self.old.faults ≤ self.new.faults }
+        ensures ok_faults { OnOk result (self.new.faults ≡ self.old.faults) }
         ensures err_faults { OnErr result (self.new.faults ≡ next_count self.old.faults) }
     {
         if piece.is_empty() {
