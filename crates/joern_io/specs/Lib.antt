@@ -1,4 +1,3 @@
-pub mod formers
 pub mod Faults
 pub mod Held
 pub mod Reading
@@ -6,3 +5,4 @@ pub mod Writing
 pub mod Shelf
 pub mod Tape
 pub mod Disk
+pub mod formers

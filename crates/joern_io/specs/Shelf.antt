@@ -27,7 +27,7 @@ NamesDiffer (file ∷ files) = (file_of files file.0 ≡ None) × NamesDiffer fi
 abbrev pub KeepsShelf : ShelfState → ShelfState → Type 0
 KeepsShelf before now = (now.files ≡ before.files) × (now.piece ≡ before.piece) × (now.fails ≡ before.fails)
 
--- how many bytes a read gives: a piece, if the buffer has room for it and as many are left
+-- how many bytes a read gives: as many as a piece, the buffer and what is left allow
 abbrev pub read_length : ShelfState → List ℕ → ℕ
 read_length shelf into = min shelf.piece (min (length into) (length (unwrap_or shelf.left [])))
 

@@ -7,8 +7,9 @@ use std::{fs, rt};
 
 /// The files of the file system that the runtime stands for, by their paths.
 ///
-/// A contract sees whether one is open and how many calls failed, and nothing of what the files hold. A path that is
-/// not there, a folder that is read and whatever else the system refuses are faults alike.
+/// A contract sees whether one is open and how many calls failed, and nothing of what the files
+/// hold. A path that is not there, a folder that is read and whatever else the system refuses are
+/// faults alike.
 #[derive(Drop)]
 pub struct DiskFiles<R: rt::Files> {
     rt: R,

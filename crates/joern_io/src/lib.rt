@@ -1,5 +1,5 @@
-//! What stands between the analyser and the outside: files that are read, sinks that are written to, and the owners
-//! of memory that contracts see as plain lists and values.
+//! What stands between the analyser and the outside: files that are read, sinks that are written
+//! to, and the owners of memory that contracts see as plain lists and values.
 #![tactic(auto)]
 
 mod boxed;

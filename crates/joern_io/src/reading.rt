@@ -30,9 +30,10 @@ const PIECE: usize = 16384;
 
 /// The bytes of the whole file of this name, if they are at most `limit`.
 ///
-/// `Failed` comes where the name is known not to be held, which is no fault, or at the first fault of the files.
-/// `TooLarge` comes where the file has more bytes than the limit; at most one piece past the limit was read. What the
-/// files hold stays, and which of them is open afterwards is not said.
+/// `Failed` comes where the name is known not to be held, which is no fault, or at the first fault
+/// of the files. `TooLarge` comes where the file has more bytes than the limit; at most one piece
+/// past the limit was read. What the files hold stays, and which of them is open afterwards is not
+/// said.
 pub fn read_all<F: Files>(
     alloc: Global,
     files: &mut F,
@@ -41,7 +42,8 @@ pub fn read_all<F: Files>(
 ) -> Result<Vec<u8>, ReadStop>
     ensures held { F.held files.new ≡ F.held files.old }
     ensures never_falls { F.faults files.old ≤ F.faults files.new }
-    ensures ok { IfOk result (λ bytes. IfSome (F.held files.old) (λ held. file_of held name.now ≡ Some bytes.items)) }
+    ensures ok { IfOk result (λ bytes.
+        IfSome (F.held files.old) (λ held. file_of held name.now ≡ Some bytes.items)) }
     ensures within { IfOk result (λ bytes. vec_len bytes ≤ limit) }
     ensures failed { IsErrOf result ReadStop.Failed →
         Rose (F.faults files.old) (F.faults files.new) ⊎ Lacks (F.held files.old) name.now }
@@ -63,8 +65,10 @@ fn read_rest<F: Files>(alloc: Global, files: &mut F, limit: u32) -> Result<Vec<u
     ensures never_falls { F.faults files.old ≤ F.faults files.new }
     ensures ok { IfOk result (λ bytes. IfSome (F.left files.old) (λ left. left ≡ bytes.items)) }
     ensures within { IfOk result (λ bytes. vec_len bytes ≤ limit) }
-    ensures failed { IsErrOf result ReadStop.Failed → Rose (F.faults files.old) (F.faults files.new) }
-    ensures too_large { IsErrOf result ReadStop.TooLarge → IfSome (F.left files.old) (λ left. limit < length left) }
+    ensures failed { IsErrOf result ReadStop.Failed →
+        Rose (F.faults files.old) (F.faults files.new) }
+    ensures too_large { IsErrOf result ReadStop.TooLarge →
+        IfSome (F.left files.old) (λ left. limit < length left) }
 {
     let mut bytes = Vec::new(alloc);
     let mut piece = [0u8; PIECE];

@@ -15,10 +15,11 @@ struct Place {
     at: usize,
 }
 
-/// Files in memory. A read gives at most one piece, and the calls that are listed by their number fail.
+/// Files in memory. A read gives at most one piece, and the calls that are listed by their number
+/// fail.
 ///
-/// A contract sees its files, what it was made with, how many calls there were, what is left of the open file and how
-/// many faults there were.
+/// A contract sees its files, what it was made with, how many calls there were, what is left of the
+/// open file and how many faults there were.
 #[derive(Debug, Drop)]
 pub struct Shelf {
     files: Vec<(String, Vec<u8>)>,
@@ -48,10 +49,12 @@ impl Model for Shelf {
 }
 
 impl Shelf {
-    /// A shelf of these files by name, of which none is open.
+    /// A shelf of these files by name, of which none is open. `names_differ` tests what it asks of
+    /// the names.
     ///
-    /// A read gives at most `piece` bytes. `fails` lists the numbers of the calls that fail: the calls of `open` and
-    /// of `read` are numbered together, from 1.
+    /// A read gives at most `piece` bytes. `fails` lists the numbers of the calls that fail: the
+    /// calls of `open` and of `read` are numbered together, from 1. A call of a name that is not
+    /// held has a number too.
     pub fn new(files: Vec<(String, Vec<u8>)>, piece: usize, fails: Vec<u32>) -> Shelf
         requires names { NamesDiffer (held_of files.items) }
         requires piece { 1 ≤ piece }
@@ -118,18 +121,24 @@ impl Files for Shelf {
 
     ghost faults = { λ shelf. shelf.faults };
 
-    /// Opens the file of this name. It fails exactly where the name is not held or the number of this call is listed,
-    /// and only the latter, of a name that is held, is a fault.
+    /// Opens the file of this name. It fails exactly where the name is not held or the number of
+    /// this call is listed, and only the latter, of a name that is held, is a fault.
     fn open(&mut self, name: &str) -> Result<(), Failed>
         ensures keeps { KeepsShelf self.old self.new }
+
+        // The number of this call is the count of calls with it.
         ensures calls { self.new.calls ≡ next_count self.old.calls }
         ensures fails { IsErr result
             ↔ ((file_of self.old.files name.now ≡ None) ⊎ Contains self.old.fails self.new.calls) }
-        ensures never_falls { self.old.faults ≤ self.new.faults }
+
+        // What is left to be read.
         ensures ok_open { OnOk result (IsSome self.new.left) }
         ensures ok_left { OnOk result (self.new.left ≡ file_of self.old.files name.now) }
-        ensures ok_faults { OnOk result (self.new.faults ≡ self.old.faults) }
         ensures err_left { OnErr result (self.new.left ≡ None) }
+
+        // The count of faults.
+        ensures never_falls { self.old.faults ≤ self.new.faults }
+        ensures ok_faults { OnOk result (self.new.faults ≡ self.old.faults) }
         ensures lacks { file_of self.old.files name.now ≡ None → self.new.faults ≡ self.old.faults }
         ensures err_faults { IsSome (file_of self.old.files name.now) →
             OnErr result (self.new.faults ≡ next_count self.old.faults) }
@@ -146,18 +155,25 @@ impl Files for Shelf {
         Ok(())
     }
 
-    /// Reads the next piece of the open file. It fails exactly where the number of this call is listed.
+    /// Reads the next piece of the open file. It fails exactly where the number of this call is
+    /// listed.
     fn read(&mut self, into: &mut [u8]) -> Result<usize, Failed>
         requires { IsSome self.old.left }
         ensures keeps { KeepsShelf self.old self.new }
+
+        // The number of this call is the count of calls with it.
         ensures calls { self.new.calls ≡ next_count self.old.calls }
         ensures fails { IsErr result ↔ Contains self.old.fails self.new.calls }
-        ensures never_falls { self.old.faults ≤ self.new.faults }
-        ensures open { IsSome self.new.left }
+
+        // What is read, and what is left.
         ensures count { IfOk result (λ count. count ≡ read_length self.old into.new) }
         ensures ok { IfOk result (λ count. Reads self.old.left self.new.left count into.new) }
-        ensures ok_faults { OnOk result (self.new.faults ≡ self.old.faults) }
+        ensures open { IsSome self.new.left }
         ensures err_left { OnErr result (self.new.left ≡ self.old.left) }
+
+        // The count of faults.
+        ensures never_falls { self.old.faults ≤ self.new.faults }
+        ensures ok_faults { OnOk result (self.new.faults ≡ self.old.faults) }
         ensures err_faults { OnErr result (self.new.faults ≡ next_count self.old.faults) }
     {
         self.calls = self.calls.saturating_add(1);
@@ -179,7 +195,8 @@ impl Files for Shelf {
 /// The index of the first file of this name.
 fn place_of(files: &[(String, Vec<u8>)], name: &str) -> Option<usize>
     ensures found { IfSome result (λ index.
-        (file_of (held_of files.now) name.now ≡ bytes_at files.now index) × (IsSome (bytes_at files.now index))) }
+        (file_of (held_of files.now) name.now ≡ bytes_at files.now index)
+        × IsSome (bytes_at files.now index)) }
     ensures none { IfNone result (file_of (held_of files.now) name.now ≡ None) }
 {
     for (index, file) in files.iter().enumerate() {
@@ -198,7 +215,8 @@ fn left_from(files: &[(String, Vec<u8>)], place: Place) -> &[u8]
     &files[place.file].1[place.at..]
 }
 
-/// Copies the front of `left` to the front of `into`, of at most `piece` bytes, and returns how many.
+/// Copies the front of `left` to the front of `into`, of at most `piece` bytes, and returns how
+/// many.
 fn copy_piece(left: &[u8], into: &mut [u8], piece: usize) -> usize
     requires { 1 ≤ piece }
     ensures count { result ≡ min piece (min (length into.new) (length left.now)) }

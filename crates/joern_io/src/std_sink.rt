@@ -5,7 +5,8 @@ use crate::sink::Sink;
 use std::io::ErrorKind;
 use std::marker::Model;
 
-/// The standard output of the runtime, without a buffer: an error of the device is answered by the write that met it.
+/// The standard output of the runtime, without a buffer: an error of the device is answered by the
+/// write that met it.
 ///
 /// A contract sees how many writes failed, and nothing of what the device took.
 #[derive(Drop)]
@@ -48,7 +49,8 @@ impl<R: Print> Sink for StdSink<R> {
     }
 }
 
-/// One write, tried again where a signal interrupts it. None stands for an error, and for a write that takes nothing.
+/// One write, tried again where a signal interrupts it. None stands for an error, and for a write
+/// that takes nothing.
 fn write_uninterrupted<R: Print>(rt: &R, piece: &[u8]) -> Option<usize>
     ensures count { IfSome result (λ count. count ≤ length piece.now) }
     ensures some { IfSome result (λ count. 0 < count) }

@@ -1,4 +1,4 @@
-ghost use Rattle.std.specs.Prelude.{◌≡◌, ◌≢◌, ◌<◌, ◌≤◌, ◌⊎◌, ◌↔◌, ◌++◌, Some, Ok, [], min, take, length, Contains, IsErr, IfOk, OnOk, OnErr};
+ghost use Rattle.std.specs.Prelude.{◌≡◌, ◌<◌, ◌≤◌, ◌⊎◌, ◌↔◌, ◌++◌, Some, Ok, [], min, take, length, Contains, IsErr, IfOk, OnOk, OnErr};
 ghost use Rattle.joern_io.specs.Faults.{next_count};
 ghost use Rattle.joern_io.specs.Tape.{room_left, KeepsTape};
 
@@ -8,10 +8,11 @@ use crate::sink::Sink;
 use std::alloc::{AllocError, Global};
 use std::marker::Model;
 
-/// A sink in memory, of a fixed room. A write takes at most one piece, and the writes that are listed by their number
-/// fail.
+/// A sink in memory, of a fixed room. A write takes at most one piece, and the writes that are
+/// listed by their number fail.
 ///
-/// A contract sees what it took, what it was made with, how many writes there were and how many faults.
+/// A contract sees what it took, what it was made with, how many writes there were and how many
+/// faults.
 #[derive(Debug, Drop)]
 pub struct Tape {
     bytes: Vec<u8>,
@@ -37,14 +38,16 @@ impl Model for Tape {
       faults = it.faults;
     } };
 
-    ghost invariant = { λ it. (1 ≤ it.piece) × (vec_len it.bytes ≤ it.room) × (it.room ≤ vec_capacity it.bytes) };
+    ghost invariant = { λ it. (1 ≤ it.piece)
+        × (vec_len it.bytes ≤ it.room)
+        × (it.room ≤ vec_capacity it.bytes) };
 }
 
 impl Tape {
     /// An empty tape, with memory for `room` bytes.
     ///
-    /// A write takes at most `piece` bytes. `fails` lists the numbers of the writes that fail: those of pieces that are
-    /// not empty are numbered from 1.
+    /// A write takes at most `piece` bytes. `fails` lists the numbers of the writes that fail:
+    /// those of pieces that are not empty are numbered from 1.
     pub fn new(
         alloc: Global,
         room: usize,
@@ -98,21 +101,28 @@ impl Sink for Tape {
 
     ghost faults = { λ tape. tape.faults };
 
-    /// Takes the front of the piece, without memory. It fails exactly where the piece is not empty, and the number of
-    /// this write is listed or no room is left; that is a fault.
+    /// Takes the front of the piece, without memory. It fails exactly where the piece is not empty,
+    /// and the number of this write is listed or no room is left; that is a fault.
     fn write(&mut self, piece: &[u8]) -> Result<usize, Failed>
         ensures keeps { KeepsTape self.old self.new }
-        ensures empty { piece.now ≡ [] → (result ≡ Ok 0) × (self.new ≡ self.old) }
-        ensures writes { piece.now ≢ [] → self.new.writes ≡ next_count self.old.writes }
+        ensures empty { length piece.now ≡ 0 → (result ≡ Ok 0) × (self.new ≡ self.old) }
+
+        // The number of a write of a piece that is not empty is the count of such writes with it.
+        ensures writes { 0 < length piece.now → self.new.writes ≡ next_count self.old.writes }
         ensures fails { IsErr result ↔ ((0 < length piece.now)
             × (Contains self.old.fails self.new.writes ⊎ (room_left self.old ≡ 0))) }
-        ensures never_falls { self.old.faults ≤ self.new.faults }
-        ensures progress { IfOk result (λ count. 0 < length piece.now → 0 < count) }
+
+        // What is taken.
         ensures count { IfOk result (λ count.
             count ≡ min self.old.piece (min (length piece.now) (room_left self.old))) }
-        ensures ok_took { IfOk result (λ count. self.new.took ≡ self.old.took ++ take count piece.now) }
-        ensures ok_faults { OnOk result (self.new.faults ≡ self.old.faults) }
+        ensures progress { IfOk result (λ count. 0 < length piece.now → 0 < count) }
+        ensures ok_took { IfOk result (λ count.
+            self.new.took ≡ self.old.took ++ take count piece.now) }
         ensures err_took { OnErr result (self.new.took ≡ self.old.took) }
+
+        // The count of faults.
+        ensures never_falls { self.old.faults ≤ self.new.faults }
+        ensures ok_faults { OnOk result (self.new.faults ≡ self.old.faults) }
         ensures err_faults { OnErr result (self.new.faults ≡ next_count self.old.faults) }
     {
         if piece.is_empty() {

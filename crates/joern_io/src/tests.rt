@@ -56,7 +56,7 @@ fn a_file_is_read_whole_or_the_stop_has_its_cause(rt: HostRuntime) -> Result<(),
     Ok(())
 }
 
-// The calls of `open` and `read` are numbered together: reads are calls 2, 3, 5 and 6.
+// Calls 1, 6 and 8 open a file and the others read, since both are numbered together.
 #[test]
 fn a_shelf_gives_its_files_piece_by_piece(rt: HostRuntime) -> Result<(), Fail> {
     let mut files = Vec::new(rt.alloc());

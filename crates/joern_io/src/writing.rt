@@ -7,14 +7,15 @@ use crate::sink::Sink;
 
 /// Writes all of the bytes, piece by piece, without memory.
 ///
-/// `Failed` comes with a fault of the sink alone, at the first write that failed. Then the sink took a proper prefix of
-/// the bytes.
+/// `Failed` comes with a fault of the sink alone, at the first write that failed. Then the sink
+/// took a proper prefix of the bytes.
 #[tactic(auto, using(crate::proofs::Appending::appending))]
 pub fn write_all<S: Sink>(sink: &mut S, bytes: &[u8]) -> Result<(), Failed>
     ensures never_falls { S.faults sink.old ≤ S.faults sink.new }
     ensures ok { OnOk result (Appends (S.took sink.old) (S.took sink.new) bytes.now) }
     ensures err { OnErr result (Rose (S.faults sink.old) (S.faults sink.new)) }
-    ensures err_prefix { OnErr result (AppendsProperPrefix (S.took sink.old) (S.took sink.new) bytes.now) }
+    ensures err_prefix { OnErr result
+        (AppendsProperPrefix (S.took sink.old) (S.took sink.new) bytes.now) }
 {
     let mut at: usize = 0;
     while at < bytes.len() {
