@@ -1,5 +1,5 @@
-//! The schema of the code property graph: labels, property keys and edge kinds, and in `specs/` the plain graph with
-//! its printed lines.
+//! The schema of the code property graph: labels, property keys and edge kinds, and in `specs/` the
+//! plain graph with its printed lines.
 #![tactic(auto)]
 
 mod edge_kind;

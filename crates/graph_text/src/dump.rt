@@ -16,7 +16,8 @@ impl Printer {
     /// Prints the line of a node.
     fn node<S: Sink>(&mut self, sink: &mut S, id: u32, node: &NodeView<'_>)
         ensures { Prints (output (S.took sink.old) (S.faults sink.old) self.old)
-            (output (S.took sink.new) (S.faults sink.new) self.new) (node_line id (plain_node node.now)) }
+            (output (S.took sink.new) (S.faults sink.new) self.new)
+            (node_line id (plain_node node.now)) }
     {
         self.text(sink, b"node ");
         self.number(sink, id);
@@ -29,7 +30,8 @@ impl Printer {
     /// Prints the line of an edge.
     fn edge<S: Sink>(&mut self, sink: &mut S, edge: &EdgeView<'_>)
         ensures { Prints (output (S.took sink.old) (S.faults sink.old) self.old)
-            (output (S.took sink.new) (S.faults sink.new) self.new) (edge_line (plain_edge edge.now)) }
+            (output (S.took sink.new) (S.faults sink.new) self.new)
+            (edge_line (plain_edge edge.now)) }
     {
         self.text(sink, b"edge ");
         self.number(sink, edge.from);
@@ -43,7 +45,8 @@ impl Printer {
 
     fn variable<S: Sink>(&mut self, sink: &mut S, kind: EdgeKind, variable: &[u8])
         ensures { Prints (output (S.took sink.old) (S.faults sink.old) self.old)
-            (output (S.took sink.new) (S.faults sink.new) self.new) (variable_text kind variable.now) }
+            (output (S.took sink.new) (S.faults sink.new) self.new)
+            (variable_text kind variable.now) }
     {
         match kind {
             EdgeKind::ReachingDef => {
@@ -57,7 +60,8 @@ impl Printer {
 
 /// Prints the lines of a graph whose edges stand in the order of printing. Takes no memory.
 ///
-/// `Failed` comes with a fault of the sink alone, at the first one, and a proper prefix of the lines was taken.
+/// `Failed` comes with a fault of the sink alone, at the first one, and a proper prefix of the
+/// lines was taken.
 pub fn print_graph<G: GraphView, S: Sink>(graph: &G, sink: &mut S) -> Result<(), Failed>
     requires { in_order (G.edges graph.now) ≡ G.edges graph.now }
     ensures never_falls { S.faults sink.old ≤ S.faults sink.new }
@@ -77,7 +81,8 @@ impl Printer {
     /// Prints the lines of all nodes.
     fn nodes<G: GraphView, S: Sink>(&mut self, sink: &mut S, graph: &G)
         ensures { Prints (output (S.took sink.old) (S.faults sink.old) self.old)
-            (output (S.took sink.new) (S.faults sink.new) self.new) (node_lines 0 (G.nodes graph.now)) }
+            (output (S.took sink.new) (S.faults sink.new) self.new)
+            (node_lines 0 (G.nodes graph.now)) }
     {
         for id in 0..graph.node_count() {
             self.node(sink, id, &graph.node(id));
@@ -87,7 +92,8 @@ impl Printer {
     /// Prints the lines of all edges.
     fn edges<G: GraphView, S: Sink>(&mut self, sink: &mut S, graph: &G)
         ensures { Prints (output (S.took sink.old) (S.faults sink.old) self.old)
-            (output (S.took sink.new) (S.faults sink.new) self.new) (flat_map edge_line (G.edges graph.now)) }
+            (output (S.took sink.new) (S.faults sink.new) self.new)
+            (flat_map edge_line (G.edges graph.now)) }
     {
         for place in 0..graph.edge_count() {
             self.edge(sink, &graph.edge(place));

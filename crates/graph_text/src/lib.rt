@@ -1,4 +1,5 @@
-//! The printed lines of a graph and of a refusal, written through one fixed buffer. No call takes memory.
+//! The printed lines of a graph and of a refusal, written through one fixed buffer. No call takes
+//! memory.
 #![tactic(auto)]
 
 mod dump;

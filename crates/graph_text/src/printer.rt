@@ -9,8 +9,8 @@ use std::marker::Model;
 /// How many bytes wait at most.
 const ROOM: usize = 8192;
 
-/// A fixed buffer before a sink. Callers see the bytes that wait in it, and whether the sink has answered with a fault:
-/// from then on nothing more is written, and `finish` says so.
+/// A fixed buffer before a sink. Callers see the bytes that wait in it, and whether the sink has
+/// answered with a fault: from then on nothing more is written, and `finish` says so.
 #[derive(Drop)]
 pub(crate) struct Printer {
     buffer: [u8; ROOM],
@@ -106,10 +106,12 @@ impl Printer {
         ensures never_falls { S.faults sink.old ≤ S.faults sink.new }
         ensures ok { OnOk result (self.failed ≡ false) }
         ensures ok_took { OnOk result (Appends (S.took sink.old) (S.took sink.new) self.bytes) }
-        ensures err { OnErr result (self.failed ≡ false → Rose (S.faults sink.old) (S.faults sink.new)) }
+        ensures err { OnErr result (self.failed ≡ false →
+            Rose (S.faults sink.old) (S.faults sink.new)) }
         ensures err_took { OnErr result (self.failed ≡ false →
             AppendsProperPrefix (S.took sink.old) (S.took sink.new) self.bytes) }
-        ensures after_fault { OnErr result (self.failed ≡ true → S.took sink.new ≡ S.took sink.old) }
+        ensures after_fault { OnErr result (self.failed ≡ true →
+            S.took sink.new ≡ S.took sink.old) }
     {
         let mut printer = self;
         printer.flush(sink);

@@ -12,7 +12,8 @@ impl Printer {
     /// Prints the properties of a node, in the order of the keys.
     pub(crate) fn properties<S: Sink>(&mut self, sink: &mut S, node: &NodeView<'_>)
         ensures { Prints (output (S.took sink.old) (S.faults sink.old) self.old)
-            (output (S.took sink.new) (S.faults sink.new) self.new) (properties_text (plain_node node.now)) }
+            (output (S.took sink.new) (S.faults sink.new) self.new)
+            (properties_text (plain_node node.now)) }
     {
         self.text_property(sink, Key::Name, node.name);
         self.text_property(sink, Key::Code, node.code);
@@ -27,7 +28,8 @@ impl Printer {
 
     fn text_property<S: Sink>(&mut self, sink: &mut S, key: Key, value: Option<&[u8]>)
         ensures { Prints (output (S.took sink.old) (S.faults sink.old) self.old)
-            (output (S.took sink.new) (S.faults sink.new) self.new) (text_property key (option_copied value.entry)) }
+            (output (S.took sink.new) (S.faults sink.new) self.new)
+            (text_property key (option_copied value.entry)) }
     {
         if let Some(bytes) = value {
             self.key(sink, key);

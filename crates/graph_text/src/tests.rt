@@ -117,7 +117,8 @@ fn a_graph_that_meets_a_fault_is_printed_up_to_there(rt: HostRuntime) -> Result<
     Ok(())
 }
 
-// A value prints bytes from `!` to `~` except `%` as they are, and each other byte as `%` and two hexadecimal digits.
+// A value prints bytes from `!` to `~` except `%` as they are, and each other byte as `%` and two
+// hexadecimal digits.
 #[test]
 fn a_value_is_escaped_byte_by_byte(rt: HostRuntime) -> Result<(), Fail> {
     let cases: [(&[u8], &str); 5] = [

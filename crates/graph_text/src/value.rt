@@ -48,13 +48,15 @@ impl Printer {
         }
     }
 
-    /// Prints a front of a value: the plain bytes there and the next byte. Returns how many bytes these are.
+    /// Prints a front of a value: the plain bytes there and the next byte. Returns how many bytes
+    /// these are.
     fn front<S: Sink>(&mut self, sink: &mut S, bytes: &[u8]) -> usize
         requires { 0 < length bytes.now }
         ensures progress { 0 < result }
         ensures within { result ≤ length bytes.now }
         ensures printed { Prints (output (S.took sink.old) (S.faults sink.old) self.old)
-            (output (S.took sink.new) (S.faults sink.new) self.new) (escaped (take result bytes.now)) }
+            (output (S.took sink.new) (S.faults sink.new) self.new)
+            (escaped (take result bytes.now)) }
     {
         let plain = plain_len(bytes);
         self.text(sink, &bytes[..plain]);

@@ -1,4 +1,5 @@
-//! `joern`: a static analyser for C. The words of the command line say what it does; `joern_top` does it.
+//! `joern`: a static analyser for C. The words of the command line say what it does; `joern_top`
+//! does it.
 #![tactic(auto)]
 
 use joern_io::{DiskFiles, StdSink};

@@ -33,7 +33,8 @@ pub(crate) fn decide<'a, F: Files>(alloc: Global, words: &'a [String], files: &m
     ensures usage { result ≡ Answer.Usage → IsNone (command (map string_bytes words.now)) }
     ensures decided { IfSome (F.held files.old) (λ held. IsDecided result →
         outcome_of result ≡ joern_out (map string_bytes words.now) held) }
-    ensures read_fault { IfReadFault result (λ name. (command (map string_bytes words.now) ≡ Some (Dump name))
+    ensures read_fault { IfReadFault result (λ name.
+        (command (map string_bytes words.now) ≡ Some (Dump name))
         × (Rose (F.faults files.old) (F.faults files.new) ⊎ Lacks (F.held files.old) name)) }
 {
     match read_words(words) {

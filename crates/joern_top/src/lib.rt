@@ -1,4 +1,5 @@
-//! The top call: from the words of the command line and the files to the bytes that go out, by the rules alone.
+//! The top call: from the words of the command line and the files to the bytes that go out, by the
+//! rules alone.
 #![tactic(auto)]
 
 mod answer;

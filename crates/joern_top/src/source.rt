@@ -11,7 +11,8 @@ pub(crate) fn accepts(bytes: &[u8]) -> bool
     bytes.iter().all(|byte| is_blank_byte(*byte))
 }
 
-/// Space, tab, line feed, vertical tab or form feed (C11 6.4 p3), or carriage return, which is ours.
+/// Space, tab, line feed, vertical tab or form feed (C11 6.4 p3), or carriage return, which is
+/// ours.
 fn is_blank_byte(byte: u8) -> bool
     ensures { result ≡ is_blank byte }
 {

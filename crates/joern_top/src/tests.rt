@@ -22,7 +22,8 @@ fn shelf(alloc: Global, bytes: Vec<u8>, piece: usize, fails: &[u32]) -> Result<S
     Ok(Shelf::new(files, piece, Vec::from_slice(alloc, fails)?))
 }
 
-/// Runs `joern_one` on these words and files, and a tape that takes at most `piece` bytes in one write.
+/// Runs `joern_one` on these words and files, and a tape that takes at most `piece` bytes in one
+/// write.
 fn run_on(
     alloc: Global,
     words: &[&str],
@@ -116,7 +117,8 @@ fn words_that_give_no_command_open_nothing(rt: HostRuntime) -> Result<(), Fail> 
     Ok(())
 }
 
-// The calls are open, read, read: the third is in mid-file. A name that is not held is no fault of the files.
+// The calls are open, read, read: the third is in mid-file. A name that is not held is no fault of
+// the files.
 #[test]
 fn a_file_that_cannot_be_read_is_named(rt: HostRuntime) -> Result<(), Fail> {
     let cases: [(&str, u32, &[u8], u64); 3] = [

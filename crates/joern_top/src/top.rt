@@ -12,16 +12,19 @@ use crate::write::write_answer;
 use joern_io::{Files, Sink};
 use std::alloc::Global;
 
-/// Runs the command that the words give, and says how the run ended. It returns for all words, files and sinks.
+/// Runs the command that the words give, and says how the run ended. It returns for all words,
+/// files and sinks.
 ///
-/// The words are those of the command line without the program's own name. All memory is taken before the first write.
+/// The words are those of the command line without the program's own name. All memory is taken
+/// before the first write.
 pub fn joern_one<F: Files, S: Sink>(
     alloc: Global,
     words: &[String],
     files: &mut F,
     out: &mut S,
 ) -> Status
-    // An answer, which is every status but a fault and want of memory, is the rules' answer, and so are the bytes.
+    // An answer, which is every status but a fault and want of memory, is the rules' answer, and so
+    // are the bytes.
     ensures status { StatusIsTheRules (map string_bytes words.now) (F.held files.old) result }
     ensures bytes { BytesAreTheRules (map string_bytes words.now) (F.held files.old) result
         (S.took out.old) (S.took out.new) }
@@ -29,12 +32,14 @@ pub fn joern_one<F: Files, S: Sink>(
     // A file could not be read: a device failed or the file is not held.
     ensures read_fault { ReadFaultHasCause (map string_bytes words.now)
         (F.held files.old) (F.faults files.old) (F.faults files.new) result }
-    ensures read_fault_line { ReadFaultLine (map string_bytes words.now) result (S.took out.old) (S.took out.new) }
+    ensures read_fault_line { ReadFaultLine (map string_bytes words.now) result
+        (S.took out.old) (S.took out.new) }
 
     // Not all was written: the sink failed.
     ensures write_fault { result ≡ Status.WriteFault → Rose (S.faults out.old) (S.faults out.new) }
     ensures write_fault_prefix { WriteFaultPrefix (map string_bytes words.now)
-        (F.held files.old) (F.faults files.old) (F.faults files.new) result (S.took out.old) (S.took out.new) }
+        (F.held files.old) (F.faults files.old) (F.faults files.new) result
+        (S.took out.old) (S.took out.new) }
 
     // Memory is wanting: nothing was written.
     ensures no_memory { result ≡ Status.NoMemory → out.new ≡ out.old }
@@ -43,10 +48,12 @@ pub fn joern_one<F: Files, S: Sink>(
     ensures complete { Completes (map string_bytes words.now) (F.held files.old)
         (F.faults files.old) (F.faults files.new) (S.faults out.old) (S.faults out.new) result }
 
-    // Words that give no command open nothing, and are answered by Usage alone; other words never are.
+    // Words that give no command open nothing; Usage is their answer, and that of no others.
     ensures usage { result ≡ Status.Usage → IsNone (command (map string_bytes words.now)) }
-    ensures usage_line { result ≡ Status.Usage → Appends (S.took out.old) (S.took out.new) usage_line }
-    ensures no_command { IsNone (command (map string_bytes words.now)) → IsAnswer result → result ≡ Status.Usage }
+    ensures usage_line { result ≡ Status.Usage → Appends
+        (S.took out.old) (S.took out.new) usage_line }
+    ensures no_command { IsNone (command (map string_bytes words.now)) →
+        IsAnswer result → result ≡ Status.Usage }
     ensures untouched { IsNone (command (map string_bytes words.now)) → files.new ≡ files.old }
 
     ensures held { F.held files.new ≡ F.held files.old }
