@@ -9,12 +9,12 @@ use Rattle.joern_top.specs.declared.answer.Answer.{Answer}
 use Rattle.joern_top.specs.declared.answer.Answer.TheVariants as answer
 use Rattle.joern_top.specs.Status.{IsAnswer}
 use Rattle.joern_top.specs.Words.{Dump, command}
-use Rattle.joern_top.specs.Run.{joern_out}
+use Rattle.joern_top.specs.Run.{IsOutcome}
 use Rattle.joern_top.specs.Answers.{outcome_of, IsDecided, IfReadFault}
 
 -- where the words and the held files decide, the answer is the rules'
 abbrev pub Decides : List (List ℕ) → Option Held → Answer → Type 0
-Decides words held a = IfSome held (λ held. IsDecided a → outcome_of a ≡ joern_out words held)
+Decides words held a = IfSome held (λ held. IsDecided a → IsOutcome words held (outcome_of a))
 
 -- a file that could not be read is the one that the command reads, and has its cause
 abbrev pub Blames : List (List ℕ) → Option Held → ℕ → ℕ → Answer → Type 0

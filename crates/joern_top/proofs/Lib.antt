@@ -3,3 +3,4 @@ pub mod Answering
 pub mod ReadFaults
 pub mod WriteFaults
 pub mod Completing
+pub mod OneOutcome

@@ -1,5 +1,5 @@
 -- A write fault has its cause, and a proper prefix was written.
-use Rattle.std.proofs.Common.{◌≡◌, ℕ, ◌<◌, ◌⊎◌, inl, inr, List, [], length, Option, Some, None, sym, ◌∙◌, ap, subst, arith}
+use Rattle.std.proofs.Common.{◌≡◌, ℕ, ◌<◌, ◌⊎◌, inl, inr, List, [], length, Option, Some, None, refl, sym, ◌∙◌, subst, arith}
 use Rattle.joern_io.specs.Faults.{Rose}
 use Rattle.joern_io.specs.Held.{Held, file_of}
 use Rattle.joern_io.specs.Writing.{AppendsProperPrefix}
@@ -7,8 +7,8 @@ use Rattle.joern_top.specs.declared.status.Status.{Status}
 use Rattle.joern_top.specs.declared.status.Status.TheVariants as status
 use Rattle.joern_top.specs.declared.answer.Answer.{Answer}
 use Rattle.joern_top.specs.declared.answer.Answer.TheVariants as answer
-use Rattle.joern_top.specs.Words.{Dump, command}
-use Rattle.joern_top.specs.Run.{Outcome, joern_out, command_outcome, dump_outcome}
+use Rattle.joern_top.specs.Words.{Command, Dump, command}
+use Rattle.joern_top.specs.Run.{IsOutcome, IsCommandOutcome, IsFileOutcome, read_fault_outcome}
 use Rattle.joern_top.specs.Answers.{outcome_of, IsDecided, Writes}
 use Rattle.joern_top.specs.Headline.{WriteFaultPrefix, WritesPrefix}
 use Rattle.joern_top.proofs.Deciding.{Decides, Blames, never_write_fault}
@@ -21,27 +21,25 @@ write_fault_rose a end before now writes_before writes (inr (same, rose, taken))
 
 -- the rules' outcome, where the command's file is not held
 pub outcome_of_lacking : (words : List (List ℕ)) (held : Held) (name : List ℕ) → command words ≡ Some (Dump name) → file_of held name ≡ None →
-    joern_out words held ≡ dump_outcome name None
-outcome_of_lacking words held name commanded lacks = ap (λ c. command_outcome c held) commanded ∙ ap (dump_outcome name) lacks
+    IsOutcome words held (read_fault_outcome name)
+outcome_of_lacking words held name commanded lacks =
+    let P : Option Command → Type 0 = λ c. IsCommandOutcome c held (read_fault_outcome name) in
+    let Q : Option (List ℕ) → Type 0 = λ file. IsFileOutcome name file (read_fault_outcome name) in
+    subst P (sym commanded) (subst Q (sym lacks) refl)
 
 -- the prefix of the rules' bytes, or of the line that says that a device failed to read
 prefix_of : (words : List (List ℕ)) (held : Held) (faults_before faults : ℕ) (a : Answer) (before now : Option (List ℕ)) →
-    (IsDecided a → outcome_of a ≡ joern_out words held) → Blames words (Some held) faults_before faults a →
+    (IsDecided a → IsOutcome words held (outcome_of a)) → Blames words (Some held) faults_before faults a →
     AppendsProperPrefix before now (outcome_of a).bytes → WritesPrefix words held faults_before faults before now
 prefix_of words held faults_before faults (answer.ReadFault name) before now decided (commanded, inl rose) prefix =
     inr (rose, (0, stops_at_first words (Some held) faults_before faults name.now commanded (inl rose), prefix))
 prefix_of words held faults_before faults (answer.ReadFault name) before now decided (commanded, inr lacks) prefix =
-    let P : Outcome → Type 0 = λ o. AppendsProperPrefix before now o.bytes in
-    inl (subst P (sym (outcome_of_lacking words held name.now commanded lacks)) prefix)
+    inl (read_fault_outcome name.now, outcome_of_lacking words held name.now commanded lacks, prefix)
 prefix_of words held faults_before faults answer.NoMemory before now decided blames (count, below, taken) = absurd (omega arith)
-prefix_of words held faults_before faults answer.Usage before now decided blames prefix =
-    let P : Outcome → Type 0 = λ o. AppendsProperPrefix before now o.bytes in inl (subst P (decided tt) prefix)
-prefix_of words held faults_before faults answer.TooLarge before now decided blames prefix =
-    let P : Outcome → Type 0 = λ o. AppendsProperPrefix before now o.bytes in inl (subst P (decided tt) prefix)
-prefix_of words held faults_before faults (answer.Unbuilt name) before now decided blames prefix =
-    let P : Outcome → Type 0 = λ o. AppendsProperPrefix before now o.bytes in inl (subst P (decided tt) prefix)
-prefix_of words held faults_before faults (answer.Dump name) before now decided blames prefix =
-    let P : Outcome → Type 0 = λ o. AppendsProperPrefix before now o.bytes in inl (subst P (decided tt) prefix)
+prefix_of words held faults_before faults answer.Usage before now decided blames prefix = inl (outcome_of answer.Usage, decided tt, prefix)
+prefix_of words held faults_before faults answer.TooLarge before now decided blames prefix = inl (outcome_of answer.TooLarge, decided tt, prefix)
+prefix_of words held faults_before faults (answer.Unbuilt name) before now decided blames prefix = inl (outcome_of (answer.Unbuilt name), decided tt, prefix)
+prefix_of words held faults_before faults (answer.Dump name) before now decided blames prefix = inl (outcome_of (answer.Dump name), decided tt, prefix)
 
 pub write_fault_prefix_is : (words : List (List ℕ)) (held : Option Held) (faults_before faults : ℕ) (a : Answer) (end : Status)
     (before now : Option (List ℕ)) (writes_before writes : ℕ) →

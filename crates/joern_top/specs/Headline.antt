@@ -1,6 +1,6 @@
 -- The headline: unless a device failed or memory was wanting, a run writes exactly what the rules give for its words and
 -- the held files alone. What is said of bytes is said where the files tell what they hold and the sink what it took.
-use Rattle.std.specs.Prelude.{ℕ, ◌≡◌, ◌≤◌, ◌<◌, ◌⊎◌, List, [], ◌∷◌, take, length, Option, Some, None, IfSome, IsSome, IsTrue, All, Contains, slice_get}
+use Rattle.std.specs.Prelude.{ℕ, ◌≡◌, ◌≤◌, ◌<◌, ◌⊎◌, List, [], ◌∷◌, take, length, Option, Some, None, IfSome, IsSome, All, Contains, slice_get}
 use Rattle.joern_io.specs.Faults.{Rose}
 use Rattle.joern_io.specs.Held.{Held, file_of, Lacks}
 use Rattle.joern_io.specs.Writing.{Appends, AppendsProperPrefix}
@@ -8,17 +8,14 @@ use Rattle.joern_top.specs.declared.status.Status.{Status}
 use Rattle.joern_top.specs.declared.status.Status.TheVariants as status
 use Rattle.joern_top.specs.Status.{IsAnswer}
 use Rattle.joern_top.specs.Words.{Command, command, files_of}
-use Rattle.joern_top.specs.Source.{max_file_bytes, is_accepted}
+use Rattle.joern_top.specs.Source.{max_file_bytes, IsAccepted}
 use Rattle.joern_top.specs.Refusals.{read_fault_line}
-use Rattle.joern_top.specs.Run.{joern_out}
+use Rattle.joern_top.specs.Run.{Outcome, IsOutcome}
 
--- an answer is the rules' answer
-abbrev pub StatusIsTheRules : List (List ℕ) → Option Held → Status → Type 0
-StatusIsTheRules words held end = IfSome held (λ held. IsAnswer end → end ≡ (joern_out words held).status)
-
--- with an answer, exactly the rules' bytes were written
-abbrev pub BytesAreTheRules : List (List ℕ) → Option Held → Status → Option (List ℕ) → Option (List ℕ) → Type 0
-BytesAreTheRules words held end before now = IfSome held (λ held. IsAnswer end → Appends before now (joern_out words held).bytes)
+-- An answer is the rules' answer: there is an outcome of the rules with its status, and exactly its bytes were written.
+abbrev pub AnswersByTheRules : List (List ℕ) → Option Held → Status → Option (List ℕ) → Option (List ℕ) → Type 0
+AnswersByTheRules words held end before now = IfSome held (λ held. IsAnswer end →
+    (o : Outcome) × IsOutcome words held o × (end ≡ o.status) × Appends before now o.bytes)
 
 -- a file that is held and within the limit
 abbrev pub IsReadable : Held → List ℕ → Type 0
@@ -45,7 +42,7 @@ ReadFaultLine words end before now = (place : ℕ) (name : List ℕ) →
 -- A proper prefix was written of the rules' bytes, or, where a device failed to read a file, of the line that says so.
 abbrev pub WritesPrefix : List (List ℕ) → Held → ℕ → ℕ → Option (List ℕ) → Option (List ℕ) → Type 0
 WritesPrefix words held faults_before faults before now =
-    AppendsProperPrefix before now (joern_out words held).bytes
+    ((o : Outcome) × IsOutcome words held o × AppendsProperPrefix before now o.bytes)
     ⊎ (Rose faults_before faults × ((place : ℕ) × (stop : StopsReadingAt words (Some held) faults_before faults place)
     × AppendsProperPrefix before now (read_fault_line stop.name)))
 
@@ -58,11 +55,11 @@ WriteFaultPrefix words held faults_before faults end before now =
 abbrev pub Completes : List (List ℕ) → Option Held → ℕ → ℕ → ℕ → ℕ → Status → Type 0
 Completes words held read_before read write_before write end =
     IfSome held (λ held. ¬ Rose read_before read → ¬ Rose write_before write →
-    (end ≡ (joern_out words held).status) ⊎ (end ≡ status.NoMemory))
+    ((o : Outcome) × IsOutcome words held o × (end ≡ o.status)) ⊎ (end ≡ status.NoMemory))
 
 -- The words give a command, each of its files is held and within the limit, and each source is accepted.
 pub record CanAnswer (words : List (List ℕ)) (held : Held) : Type 0 where
   pub commanded : IsSome (command words)
   pub readable : All (IsReadable held) (files_of (command words))
   pub accepted : (name bytes : List ℕ) → Contains (files_of (command words)) name → file_of held name ≡ Some bytes →
-      IsTrue (is_accepted bytes)
+      IsAccepted bytes

@@ -1,6 +1,6 @@
 -- The run (ours): what the words and the held files give, as a status and the bytes that are written. The cases come in
 -- the order of refusals, and the first that holds decides.
-use Rattle.std.specs.Prelude.{ℕ, nat_lt, List, Option, Some, None, length, if◌then◌else◌}
+use Rattle.std.specs.Prelude.{ℕ, ◌≡◌, ◌<◌, ◌≤◌, ◌⊎◌, List, Option, Some, None, length}
 use Rattle.joern_io.specs.Held.{Held, file_of}
 use Rattle.cpg_schema.specs.Lines.{graph_lines}
 use Rattle.joern_top.specs.declared.status.Status.{Status}
@@ -8,7 +8,7 @@ use Rattle.joern_top.specs.declared.status.Status.TheVariants as status
 use Rattle.joern_top.specs.declared.status.Reason.TheVariants as reason
 use Rattle.joern_top.specs.declared.status.What.TheVariants as what
 use Rattle.joern_top.specs.Words.{Command, Dump, command}
-use Rattle.joern_top.specs.Source.{max_file_bytes, is_accepted}
+use Rattle.joern_top.specs.Source.{max_file_bytes, IsAccepted}
 use Rattle.joern_top.specs.SyntaxLayer.{file_graph}
 use Rattle.joern_top.specs.Refusals.{usage_line, read_fault_line, refused_line, limit_line}
 
@@ -41,19 +41,23 @@ unbuilt_outcome name = outcome (status.SourceRefused 0 0 reason.Unbuilt) (refuse
 abbrev pub graph_outcome : List ℕ → Outcome
 graph_outcome name = outcome status.Ok (graph_lines (file_graph name))
 
--- the dump of the file of this name, which has these bytes if it is held
-abbrev pub dump_outcome : List ℕ → Option (List ℕ) → Outcome
-dump_outcome name None = read_fault_outcome name
-dump_outcome name (Some bytes) =
-    if nat_lt max_file_bytes (length bytes) then large_file_outcome
-    else if is_accepted bytes then graph_outcome name
-    else unbuilt_outcome name
+-- the outcome for a source of this name with these bytes
+abbrev pub IsSourceOutcome : List ℕ → List ℕ → Outcome → Type 0
+IsSourceOutcome name bytes o =
+    (IsAccepted bytes × (o ≡ graph_outcome name)) ⊎ ((IsAccepted bytes → ⊥) × (o ≡ unbuilt_outcome name))
+
+-- the outcome for the file of this name, which has these bytes if it is held
+abbrev pub IsFileOutcome : List ℕ → Option (List ℕ) → Outcome → Type 0
+IsFileOutcome name None o = o ≡ read_fault_outcome name
+IsFileOutcome name (Some bytes) o =
+    ((max_file_bytes < length bytes) × (o ≡ large_file_outcome))
+    ⊎ ((length bytes ≤ max_file_bytes) × IsSourceOutcome name bytes o)
 
 -- the outcome of a command
-abbrev pub command_outcome : Option Command → Held → Outcome
-command_outcome None held = usage_outcome
-command_outcome (Some (Dump name)) held = dump_outcome name (file_of held name)
+abbrev pub IsCommandOutcome : Option Command → Held → Outcome → Type 0
+IsCommandOutcome None held o = o ≡ usage_outcome
+IsCommandOutcome (Some (Dump name)) held o = IsFileOutcome name (file_of held name) o
 
 -- the outcome of the words and the held files
-abbrev pub joern_out : List (List ℕ) → Held → Outcome
-joern_out words held = command_outcome (command words) held
+abbrev pub IsOutcome : List (List ℕ) → Held → Outcome → Type 0
+IsOutcome words held o = IsCommandOutcome (command words) held o

@@ -2,10 +2,10 @@ ghost use Rattle.std.specs.Prelude.{◌≡◌, ◌≤◌, ◌⊎◌, length, Som
 ghost use Rattle.joern_io.specs.Faults.{Rose};
 ghost use Rattle.joern_io.specs.Held.{file_of, Lacks};
 ghost use Rattle.joern_top.specs.Answers.{outcome_of, IsDecided, IfReadFault};
-ghost use Rattle.joern_top.specs.Run.{joern_out, dump_outcome};
+ghost use Rattle.joern_top.specs.Run.{IsOutcome, IsFileOutcome};
 ghost use Rattle.joern_top.specs.Words.{Dump, command};
 
-use crate::source::{MAX_FILE_BYTES, accepts};
+use crate::source::{MAX_FILE_BYTES, SourceStop, read_source};
 use crate::words::{Command, read_words};
 use joern_io::{Files, ReadStop, read_all};
 use std::alloc::Global;
@@ -32,7 +32,7 @@ pub(crate) fn decide<'a, F: Files>(alloc: Global, words: &'a [String], files: &m
         (result ≡ Answer.Usage) × (files.new ≡ files.old) }
     ensures usage { result ≡ Answer.Usage → IsNone (command (map string_bytes words.now)) }
     ensures decided { IfSome (F.held files.old) (λ held. IsDecided result →
-        outcome_of result ≡ joern_out (map string_bytes words.now) held) }
+        IsOutcome (map string_bytes words.now) held (outcome_of result)) }
     ensures read_fault { IfReadFault result (λ name.
         (command (map string_bytes words.now) ≡ Some (Dump name))
         × (Rose (F.faults files.old) (F.faults files.new) ⊎ Lacks (F.held files.old) name)) }
@@ -49,12 +49,12 @@ fn dump_answer<'a, F: Files>(alloc: Global, name: &'a str, files: &mut F) -> Ans
     ensures never_falls { F.faults files.old ≤ F.faults files.new }
     ensures no_usage { result ≡ Answer.Usage → ⊥ }
     ensures decided { IfSome (F.held files.old) (λ held. IsDecided result →
-        outcome_of result ≡ dump_outcome name.now (file_of held name.now)) }
+        IsFileOutcome name.now (file_of held name.now) (outcome_of result)) }
     ensures read_fault { IfReadFault result (λ file. (file ≡ name.now)
         × (Rose (F.faults files.old) (F.faults files.new) ⊎ Lacks (F.held files.old) name.now)) }
 {
     match read_all(alloc, files, name, MAX_FILE_BYTES) {
-        Ok(bytes) => source_answer(name, &bytes),
+        Ok(bytes) => source_answer(alloc, name, &bytes),
         Err(ReadStop::Failed) => Answer::ReadFault { name },
         Err(ReadStop::TooLarge) => Answer::TooLarge,
         Err(ReadStop::Memory) => Answer::NoMemory,
@@ -62,15 +62,16 @@ fn dump_answer<'a, F: Files>(alloc: Global, name: &'a str, files: &mut F) -> Ans
 }
 
 /// The answer to a dump of a file with these bytes.
-fn source_answer<'a>(name: &'a str, bytes: &[u8]) -> Answer<'a>
+fn source_answer<'a>(alloc: Global, name: &'a str, bytes: &[u8]) -> Answer<'a>
     requires { length bytes.now ≤ MAX_FILE_BYTES }
-    ensures outcome { outcome_of result ≡ dump_outcome name.now (Some bytes.now) }
-    ensures decided { IsDecided result }
+    ensures decided { IsDecided result →
+        IsFileOutcome name.now (Some bytes.now) (outcome_of result) }
     ensures no_usage { result ≡ Answer.Usage → ⊥ }
+    ensures no_read_fault { IfReadFault result (λ _. ⊥) }
 {
-    if accepts(bytes) {
-        Answer::Dump { name }
-    } else {
-        Answer::Unbuilt { name }
+    match read_source(alloc, bytes) {
+        Ok(()) => Answer::Dump { name },
+        Err(SourceStop::Unbuilt) => Answer::Unbuilt { name },
+        Err(SourceStop::Memory) => Answer::NoMemory,
     }
 }

@@ -4,11 +4,23 @@ ghost use Rattle.std.specs.Prelude.{ℕ, List, ◌≡◌};
 ghost use Rattle.joern_io.specs.Held.{Held};
 ghost use Rattle.joern_top.specs.declared.status.Status.TheVariants as status;
 ghost use Rattle.joern_top.specs.Headline.{CanAnswer};
-ghost use Rattle.joern_top.specs.Run.{joern_out};
+ghost use Rattle.joern_top.specs.Run.{Outcome, IsOutcome};
 
-/// The rules answer where the words give a command, each of its files is held and within the limit,
-/// and each source is accepted.
+use c_lexer::laws::law_one_reading;
+
+/// The words and the held files have one outcome.
+pub fn law_one_outcome()
+    ensures some { (words : List (List ℕ)) (held : Held) →
+        (o : Outcome) × IsOutcome words held o }
+    ensures one { (words : List (List ℕ)) (held : Held) (o p : Outcome) →
+        IsOutcome words held o → IsOutcome words held p → o ≡ p }
+{
+    law_one_reading();
+}
+
+/// The outcome is Ok where the words give a command, each of its files is held and within the
+/// limit, and each source is accepted.
 pub fn law_can_answer()
-    ensures { (words : List (List ℕ)) (held : Held) → CanAnswer words held →
-        (joern_out words held).status ≡ status.Ok }
+    ensures { (words : List (List ℕ)) (held : Held) (o : Outcome) →
+        CanAnswer words held → IsOutcome words held o → o.status ≡ status.Ok }
 {}

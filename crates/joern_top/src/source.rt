@@ -1,20 +1,39 @@
-ghost use Rattle.std.specs.Prelude.{◌≡◌};
-ghost use Rattle.joern_top.specs.Source.{is_accepted, is_blank};
+ghost use Rattle.std.specs.Prelude.{◌≤◌, length, OnOk, IsErrOf};
+ghost use Rattle.joern_top.specs.Source.{IsAccepted};
+
+use c_lexer::laws::law_one_reading;
+use c_lexer::{LexStop, lex};
+use std::alloc::Global;
 
 /// The largest source, in bytes.
 pub const MAX_FILE_BYTES: u32 = 16_777_216;
 
-/// Whether a source is accepted: it holds blanks alone.
-pub(crate) fn accepts(bytes: &[u8]) -> bool
-    ensures { result ≡ is_accepted bytes.now }
-{
-    bytes.iter().all(|byte| is_blank_byte(*byte))
+/// Why a source is not accepted.
+#[derive(Clone, Copy, Debug, PartialEq, Eq)]
+pub(crate) enum SourceStop {
+    /// It is outside the part of the language that is built.
+    Unbuilt,
+    /// Memory is wanting.
+    Memory,
 }
 
-/// Space, tab, line feed, vertical tab or form feed (C11 6.4 p3), or carriage return, which is
-/// ours.
-fn is_blank_byte(byte: u8) -> bool
-    ensures { result ≡ is_blank byte }
+/// Reads a source: it is accepted where its text has no token.
+pub(crate) fn read_source(alloc: Global, bytes: &[u8]) -> Result<(), SourceStop>
+    requires { length bytes.now ≤ MAX_FILE_BYTES }
+    ensures ok { OnOk result (IsAccepted bytes.now) }
+    ensures unbuilt { IsErrOf result SourceStop.Unbuilt → IsAccepted bytes.now → ⊥ }
 {
-    byte == b' ' || (b'\t' <= byte && byte <= b'\r')
+    law_one_reading();
+    match lex(alloc, bytes) {
+        Ok(tokens) => {
+            if tokens.is_empty() {
+                Ok(())
+            } else {
+                Err(SourceStop::Unbuilt)
+            }
+        }
+        Err(LexStop::BadByte { .. }) => Err(SourceStop::Unbuilt),
+        Err(LexStop::Unclosed { .. }) => Err(SourceStop::Unbuilt),
+        Err(LexStop::Memory) => Err(SourceStop::Memory),
+    }
 }

@@ -4,7 +4,7 @@ ghost use Rattle.joern_io.specs.Writing.{Appends};
 ghost use Rattle.joern_top.specs.Status.{IsAnswer};
 ghost use Rattle.joern_top.specs.Words.{command};
 ghost use Rattle.joern_top.specs.Refusals.{usage_line};
-ghost use Rattle.joern_top.specs.Headline.{StatusIsTheRules, BytesAreTheRules, ReadFaultHasCause, ReadFaultLine, WriteFaultPrefix, Completes};
+ghost use Rattle.joern_top.specs.Headline.{AnswersByTheRules, ReadFaultHasCause, ReadFaultLine, WriteFaultPrefix, Completes};
 
 use crate::answer::{Answer, decide};
 use crate::status::Status;
@@ -23,10 +23,9 @@ pub fn joern_one<F: Files, S: Sink>(
     files: &mut F,
     out: &mut S,
 ) -> Status
-    // An answer, which is every status but a fault and want of memory, is the rules' answer, and so
-    // are the bytes.
-    ensures status { StatusIsTheRules (map string_bytes words.now) (F.held files.old) result }
-    ensures bytes { BytesAreTheRules (map string_bytes words.now) (F.held files.old) result
+    // An answer, which is every status but a fault and want of memory, is the rules' answer: their
+    // status, and exactly their bytes.
+    ensures answer { AnswersByTheRules (map string_bytes words.now) (F.held files.old) result
         (S.took out.old) (S.took out.new) }
 
     // A file could not be read: a device failed or the file is not held.

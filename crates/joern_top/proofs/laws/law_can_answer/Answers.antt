@@ -1,4 +1,4 @@
-use Rattle.joern_top.proofs.Completing.{can_answer}
+use Rattle.joern_top.proofs.OneOutcome.{can_answer}
 use Rattle.joern_top.proofs.laws.law_can_answer.Goals as goal
 
 pub returns : goal.returns

@@ -1,17 +1,13 @@
 use Rattle.std.proofs.Common.{map, string_bytes, Global}
-use Rattle.joern_top.proofs.Answering.{status_is_the_rules, bytes_are_the_rules, no_command_is_usage, usage_line_is}
+use Rattle.joern_top.proofs.Answering.{answers_by_the_rules, no_command_is_usage, usage_line_is}
 use Rattle.joern_top.proofs.ReadFaults.{read_fault_has_cause, read_fault_line_is}
 use Rattle.joern_top.proofs.WriteFaults.{write_fault_rose, write_fault_prefix_is}
 use Rattle.joern_top.proofs.Completing.{completes}
 use Rattle.joern_top.proofs.top.joern_one.Goals as goal
 
-pub returns-in_default-clause-status : goal.returns-in_default-clause-status
-returns-in_default-clause-status g c =
-    status_is_the_rules (map (string_bytes {Z = Global}) c.args.words.now) (g.F.Files.held c.args.files.now) _ _ _ _ _ _ c.decide.ensures.decided c.write_answer.ensures.written
-
-pub returns-in_default-clause-bytes : goal.returns-in_default-clause-bytes
-returns-in_default-clause-bytes g c =
-    bytes_are_the_rules (map (string_bytes {Z = Global}) c.args.words.now) (g.F.Files.held c.args.files.now) _ _ _ _ _ _ c.decide.ensures.decided c.write_answer.ensures.written
+pub returns-in_default-clause-answer : goal.returns-in_default-clause-answer
+returns-in_default-clause-answer g c =
+    answers_by_the_rules (map (string_bytes {Z = Global}) c.args.words.now) (g.F.Files.held c.args.files.now) _ _ _ _ _ _ c.decide.ensures.decided c.write_answer.ensures.written
 
 pub returns-in_default-clause-read_fault : goal.returns-in_default-clause-read_fault
 returns-in_default-clause-read_fault g c =
