@@ -21,11 +21,23 @@ def blanks(length):
     return (line * (length // len(line) + 1))[:length]
 
 
-def seconds(words, folder):
+def functions(length):
+    """Functions of one statement each, as C11 has them; joern reads their tokens, and then refuses the file."""
+    text = bytearray(b"int x; int y;\n")
+    number = 0
+    while True:
+        line = b"int f%d(void){ x = %d + y; }\n" % (number, number)
+        if len(text) + len(line) > length:
+            return bytes(text)
+        text += line
+        number += 1
+
+
+def seconds(words, folder, status=0):
     began = time.perf_counter()
     done = subprocess.run(words, cwd=folder, stdout=subprocess.DEVNULL, stderr=subprocess.DEVNULL)
     took = time.perf_counter() - began
-    if done.returncode != 0:
+    if done.returncode != status:
         sys.exit("%s ended with %d" % (" ".join(words), done.returncode))
     return took
 
@@ -45,24 +57,27 @@ def peak_kilobytes(words, folder):
 
 
 def main(runs):
-    cases = [("blanks, 16 MiB", "blank.i", blanks(LIMIT))]
+    cases = [
+        ("blanks, 16 MiB", "blank.i", blanks(LIMIT), 0, 0),
+        ("functions, 16 MiB, read as tokens and refused", "functions.i", functions(LIMIT), 3, 0),
+    ]
     print("| Case | Program | Median of %d | Ratio to joern | Peak memory |" % runs)
     print("|---|---|---|---|---|")
     with tempfile.TemporaryDirectory() as folder:
-        for case, name, text in cases:
+        for case, name, text, status, peer_status in cases:
             with open(os.path.join(folder, name), "wb") as file:
                 file.write(text)
             programs = [
-                ("joern --do dump", [PROGRAM, "--do", "dump", name]),
-                ("gcc -fsyntax-only", ["gcc", "-fsyntax-only", "-x", "cpp-output", name]),
-                ("wc -l", ["wc", "-l", name]),
+                ("joern --do dump", [PROGRAM, "--do", "dump", name], status),
+                ("gcc -fsyntax-only", ["gcc", "-fsyntax-only", "-x", "cpp-output", name], peer_status),
+                ("wc -w", ["wc", "-w", name], 0),
             ]
-            times = {label: [] for label, _ in programs}
+            times = {label: [] for label, _, _ in programs}
             for _ in range(runs):
-                for label, words in programs:
-                    times[label].append(seconds(words, folder))
+                for label, words, ends in programs:
+                    times[label].append(seconds(words, folder, ends))
             base = statistics.median(times["joern --do dump"])
-            for label, words in programs:
+            for label, words, _ in programs:
                 median = statistics.median(times[label])
                 print("| %s | `%s` | %.1f ms | %.2f | %.1f MiB |" % (
                     case, label, 1000 * median, median / base, peak_kilobytes(words, folder) / 1024))

@@ -1,0 +1,4 @@
+pub mod Spell
+pub mod Fits
+pub mod Forms
+pub mod Walk
