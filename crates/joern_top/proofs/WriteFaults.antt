@@ -1,5 +1,5 @@
 -- A write fault has its cause, and a proper prefix was written.
-use Rattle.std.proofs.Common.{◌≡◌, ℕ, ◌<◌, ◌⊎◌, inl, inr, List, [], length, Option, Some, None, refl, sym, ◌∙◌, subst, arith}
+use Rattle.std.proofs.Common.{◌≡◌, ℕ, inl, inr, List, Option, Some, None, refl, sym, ◌∙◌, subst, arith}
 use Rattle.joern_io.specs.Faults.{Rose}
 use Rattle.joern_io.specs.Held.{Held, file_of}
 use Rattle.joern_io.specs.Writing.{AppendsProperPrefix}

@@ -1,13 +1,13 @@
 -- The headline: unless a device failed or memory was wanting, a run writes exactly what the rules give for its words and
--- the held files alone. What is said of bytes is said where the files tell what they hold and the sink what it took.
-use Rattle.std.specs.Prelude.{ℕ, ◌≡◌, ◌≤◌, ◌<◌, ◌⊎◌, List, [], ◌∷◌, take, length, Option, Some, None, IfSome, IsSome, All, Contains, slice_get}
+-- the held files alone. The rules' status is said where the files tell what they hold, bytes where the sink tells what it took.
+use Rattle.std.specs.Prelude.{ℕ, ◌≡◌, ◌≤◌, ◌⊎◌, List, take, length, Option, Some, IfSome, IsSome, All, Contains, slice_get}
 use Rattle.joern_io.specs.Faults.{Rose}
 use Rattle.joern_io.specs.Held.{Held, file_of, Lacks}
 use Rattle.joern_io.specs.Writing.{Appends, AppendsProperPrefix}
 use Rattle.joern_top.specs.declared.status.Status.{Status}
 use Rattle.joern_top.specs.declared.status.Status.TheVariants as status
 use Rattle.joern_top.specs.Status.{IsAnswer}
-use Rattle.joern_top.specs.Words.{Command, command, files_of}
+use Rattle.joern_top.specs.Words.{command, files_of}
 use Rattle.joern_top.specs.Source.{max_file_bytes, IsAccepted}
 use Rattle.joern_top.specs.Refusals.{read_fault_line}
 use Rattle.joern_top.specs.Run.{Outcome, IsOutcome}

@@ -6,10 +6,11 @@ use Rattle.joern_top.specs.declared.status.Reason.TheVariants as reason
 use Rattle.joern_top.specs.declared.status.What.{What}
 use Rattle.joern_top.specs.declared.status.What.TheVariants as what
 
--- how a reason and a limit are spelled
+-- how a reason is spelled
 abbrev pub reason_text : Reason → List ℕ
 reason_text reason.Unbuilt = codes "unbuilt"
 
+-- how what there is too much of is spelled
 abbrev pub what_text : What → List ℕ
 what_text what.FileBytes = codes "file-bytes"
 

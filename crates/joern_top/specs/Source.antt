@@ -1,4 +1,4 @@
--- Which sources are accepted: those without a token, for no construct is built yet.
+-- Which sources are accepted: those of blanks alone, for no construct is built yet.
 use Rattle.std.specs.Prelude.{ℕ, List, []}
 use Rattle.c_lexer.specs.Reading.{AreTokensOf}
 
@@ -6,6 +6,6 @@ use Rattle.c_lexer.specs.Reading.{AreTokensOf}
 abbrev pub max_file_bytes : ℕ
 max_file_bytes = 16777216
 
--- its text has no token (C11 6.4)
+-- its reading comes to its end without a token (C11 6.4); comments are not passed over yet
 abbrev pub IsAccepted : List ℕ → Type 0
 IsAccepted bytes = AreTokensOf bytes []

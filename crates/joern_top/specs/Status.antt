@@ -13,7 +13,7 @@ status_code status.WriteFault = 7
 status_code (status.Limit _ _) = 8
 status_code status.NoMemory = 9
 
--- an answer of the rules: no device failed, and memory was not wanting
+-- neither a fault nor want of memory
 abbrev pub IsAnswer : Status → Type 0
 IsAnswer (status.ReadFault _) = ⊥
 IsAnswer status.WriteFault = ⊥

@@ -19,7 +19,7 @@ pub(crate) enum Answer<'a> {
     TooLarge,
     /// The source of this name is outside the part of the language that is built.
     Unbuilt { name: &'a str },
-    /// The graph of the file of this name, which has no token.
+    /// The graph of the file of this name, which holds blanks alone.
     Dump { name: &'a str },
     NoMemory,
 }

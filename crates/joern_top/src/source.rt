@@ -17,7 +17,7 @@ pub(crate) enum SourceStop {
     Memory,
 }
 
-/// Reads a source: it is accepted where its text has no token.
+/// Reads a source: it is accepted where it holds blanks alone.
 pub(crate) fn read_source(alloc: Global, bytes: &[u8]) -> Result<(), SourceStop>
     requires { length bytes.now ≤ MAX_FILE_BYTES }
     ensures ok { OnOk result (IsAccepted bytes.now) }

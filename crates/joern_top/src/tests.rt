@@ -42,7 +42,7 @@ fn run_on(
     Ok(Run { status, out, files })
 }
 
-/// What a dump of `a.c` prints where it holds no token.
+/// What a dump of `a.c` prints where it holds blanks alone.
 const DUMP: &str = "node 0 METHOD NAME=<global> FILENAME=a.c LINE_NUMBER=1 ORDER=1\n\
     node 1 BLOCK LINE_NUMBER=1 ORDER=1\n\
     node 2 METHOD_RETURN LINE_NUMBER=1 ORDER=2 TYPE_FULL_NAME=void\n\
@@ -50,7 +50,7 @@ const DUMP: &str = "node 0 METHOD NAME=<global> FILENAME=a.c LINE_NUMBER=1 ORDER
     edge 0 AST 2\n";
 
 #[test]
-fn a_file_without_tokens_has_three_nodes_and_two_edges(rt: HostRuntime) -> Result<(), Fail> {
+fn a_file_of_blanks_has_three_nodes_and_two_edges(rt: HostRuntime) -> Result<(), Fail> {
     let cases: [&[u8]; 3] = [b"", b" ", b"\t\n\x0B\x0C\r \n"];
     for bytes in cases {
         let files = shelf(rt.alloc(), Vec::from_slice(rt.alloc(), bytes)?, 8, &[])?;
@@ -65,7 +65,7 @@ fn a_file_without_tokens_has_three_nodes_and_two_edges(rt: HostRuntime) -> Resul
 }
 
 #[test]
-fn a_file_with_a_token_is_unbuilt(rt: HostRuntime) -> Result<(), Fail> {
+fn a_file_of_more_than_blanks_is_unbuilt(rt: HostRuntime) -> Result<(), Fail> {
     let cases: [&[u8]; 6] = [
         b"x",
         b" ;",
