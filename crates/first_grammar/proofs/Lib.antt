@@ -1,0 +1,10 @@
+pub mod Runs
+pub mod Unique
+pub mod Stands
+pub mod Plain
+pub mod Places
+pub mod Inward
+pub mod Outward
+pub mod Fails
+pub mod Tokens
+pub mod Differing

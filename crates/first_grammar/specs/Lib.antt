@@ -1,0 +1,4 @@
+pub mod FirstUnit
+pub mod Rest
+pub mod Reads
+pub mod Grammar

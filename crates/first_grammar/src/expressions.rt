@@ -1,0 +1,71 @@
+//! Statements of sums and assignments (C11 6.5.6, 6.5.16, 6.8.3).
+
+ghost use Rattle.first_grammar.specs.Reads.{Reads};
+ghost use Rattle.first_grammar.specs.Grammar.{BegunAt, OperandAt, AddendsAt, StatementAt};
+
+use crate::cursor::Cursor;
+use crate::stop::GrammarStop;
+use c_lexer::Kind;
+use c_lexer::mark::{MARK_EQUAL, MARK_PLUS, MARK_SEMICOLON};
+use c_tree::{Assign, Binary, BlockItem, Cond, Expr, Prefixed, Stmt, StmtKind, list_of_one};
+use joern_io::List;
+
+impl<'t> Cursor<'t> {
+    /// An expression and `;`.
+    pub fn statement(&mut self) -> Result<BlockItem, GrammarStop>
+        ensures { Reads StatementAt self.old result self.new }
+    {
+        let (targets, first) = self.begin()?;
+        let rest = self.addends()?;
+        let semicolon = self.expect(Kind::Mark(MARK_SEMICOLON))?;
+        let assign = Assign {
+            targets,
+            value: Cond {
+                last: Binary { first, rest },
+            },
+        };
+        let expr = Expr {
+            parts: list_of_one(self.alloc(), assign)?,
+        };
+        let marks = list_of_one(self.alloc(), semicolon)?;
+        Ok(BlockItem::Do(Stmt {
+            kind: StmtKind::Value { expr, marks },
+        }))
+    }
+
+    /// The targets with their operators, and the operand with which the value begins.
+    fn begin(&mut self) -> Result<(List<(Prefixed, u32)>, Prefixed), GrammarStop>
+        ensures { Reads BegunAt self.old result self.new }
+    {
+        let mut targets = List::new(self.alloc());
+        let mut operand = self.operand()?;
+        while let Some(equal) = self.take_if(Kind::Mark(MARK_EQUAL)) {
+            targets.push((operand, equal))?;
+            operand = self.operand()?;
+        }
+        Ok((targets, operand))
+    }
+
+    /// Each `+` with the operand after it.
+    fn addends(&mut self) -> Result<List<(u32, Prefixed)>, GrammarStop>
+        ensures { Reads AddendsAt self.old result self.new }
+    {
+        let mut addends = List::new(self.alloc());
+        while let Some(plus) = self.take_if(Kind::Mark(MARK_PLUS)) {
+            let operand = self.operand()?;
+            addends.push((plus, operand))?;
+        }
+        Ok(addends)
+    }
+
+    /// A name or a number.
+    fn operand(&mut self) -> Result<Prefixed, GrammarStop>
+        ensures { Reads OperandAt self.old result self.new }
+    {
+        if let Some(name) = self.take_if(Kind::Word) {
+            return Ok(Prefixed::name(name));
+        }
+        let number = self.expect(Kind::Number)?;
+        Ok(Prefixed::literal(self.alloc(), number)?)
+    }
+}
