@@ -1,0 +1,6 @@
+pub mod Sizes
+pub mod Steps
+pub mod SortedKeys
+pub mod Children
+pub mod Reordering
+pub mod Room

@@ -1,0 +1,30 @@
+use Rattle.std.proofs.Common.{refl, ◌≡◌, arith, length-append}
+use Rattle.cpg_schema.specs.Order.{in_order}
+use Rattle.ast_layer.specs.Source.{file_of}
+use Rattle.ast_layer.specs.SyntaxLayer.{unit_nodes, unit_edges}
+use Rattle.ast_layer.specs.Layer.{layer_nodes, layer_edges}
+use Rattle.ast_layer.proofs.Sizes.{length-unit_nodes, length-unit_edges}
+use Rattle.ast_layer.proofs.Reordering.{in_order-again}
+use Rattle.ast_layer.proofs.walk.syntax_layer.Goals as goal
+
+pub finish-requires-clause-nodes : goal.finish-requires-clause-nodes
+finish-requires-clause-nodes c =
+    let many = length-unit_nodes c.new-builder.result.file c.args.unit.now in
+    grind (arith, many)
+
+pub finish-requires-clause-edges : goal.finish-requires-clause-edges
+finish-requires-clause-edges c =
+    let many = length-unit_edges c.args.unit.now in
+    grind (arith, many, length-append)
+
+pub returns-clause-in_order : goal.returns-clause-in_order
+returns-clause-in_order c =
+    let edges : layer_edges c.finish.result ≡ in_order (unit_edges c.args.unit.now) = grind (arith) in
+    rw (edges) (in_order-again (unit_edges c.args.unit.now))
+
+pub returns-clause-lines : goal.returns-clause-lines
+returns-clause-lines c =
+    let nodes : layer_nodes (file_of c.args.source) c.finish.result ≡ unit_nodes (file_of c.args.source) c.args.unit.now = grind arith in
+    let edges : layer_edges c.finish.result ≡ in_order (unit_edges c.args.unit.now) = grind arith in
+    let again = in_order-again (unit_edges c.args.unit.now) in
+    rw (nodes, edges, again) refl

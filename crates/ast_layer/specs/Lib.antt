@@ -1,0 +1,10 @@
+pub mod Source
+pub mod Operators
+pub mod Grouping
+pub mod Nodes
+pub mod Edges
+pub mod Expressions
+pub mod SyntaxLayer
+pub mod Building
+pub mod Layer
+pub mod Room

@@ -1,0 +1,173 @@
+ghost use Rattle.std.specs.Prelude.{◌≡◌, ◌<◌, ◌≤◌, ◌^◌, ◌∷◌, [], ◌++◌, length, OnOk};
+ghost use Rattle.ast_layer.specs.Source.{file_of, line_at};
+ghost use Rattle.ast_layer.specs.Nodes.{call_node, operand_node};
+ghost use Rattle.ast_layer.specs.Edges.{ast, argument_edge, call_edges};
+ghost use Rattle.ast_layer.specs.Building.{plain_of};
+ghost use Rattle.ast_layer.specs.Layer.{layer_edges, layer_nodes};
+ghost use Rattle.cpg_schema.specs.Order.{in_order};
+
+use crate::edge::{Edge, sort_edges};
+use crate::layer::SyntaxLayer;
+use crate::node::{Form, Node, Place};
+use crate::source::Source;
+use c_tree::{BaseForm, Prefixed};
+use cpg_schema::EdgeKind;
+use std::alloc::{AllocError, Global};
+use std::marker::Model;
+
+/// A layer that is being built. Contracts see the file, and the nodes and edges of the graph.
+#[derive(Drop)]
+pub(crate) struct Builder<'s> {
+    source: Source<'s>,
+    nodes: Vec<Node>,
+    edges: Vec<Edge>,
+}
+
+impl<'s> Model for Builder<'s> {
+    ghost use Rattle.ast_layer.specs.Source.{file_of};
+    ghost use Rattle.ast_layer.specs.Building.{Built, built};
+
+    ghost Value = { Built };
+
+    ghost view = { λ b. built (file_of b.source) b.nodes.items b.edges.items };
+}
+
+impl<'s> Builder<'s> {
+    /// A layer without nodes.
+    pub(crate) fn new(alloc: Global, source: Source<'s>) -> Builder<'s>
+        ensures file { result.file ≡ file_of source.entry }
+        ensures nodes { result.nodes ≡ [] }
+        ensures edges { result.edges ≡ [] }
+    {
+        Builder {
+            source,
+            nodes: Vec::new(alloc),
+            edges: Vec::new(alloc),
+        }
+    }
+
+    /// How many nodes there are, which is the number of the next one.
+    pub(crate) fn count(&self) -> u32
+        requires { length self.now.nodes < 2 ^ 32 }
+        ensures { result ≡ length self.now.nodes }
+    {
+        self.nodes.len() as u32
+    }
+
+    /// The line of a token.
+    pub(crate) fn line(&self, token: Option<u32>) -> u32
+        ensures { result ≡ line_at self.now.file token }
+    {
+        self.source.line(token)
+    }
+
+    /// Adds a node.
+    pub(crate) fn node(&mut self, node: Node) -> Result<(), AllocError>
+        ensures file { OnOk result (self.new.file ≡ self.old.file) }
+        ensures nodes { OnOk result
+            (self.new.nodes ≡ self.old.nodes ++ plain_of self.old.file node ∷ []) }
+        ensures edges { OnOk result (self.new.edges ≡ self.old.edges) }
+    {
+        self.nodes.push(node)?;
+        Ok(())
+    }
+
+    /// Adds an edge from a parent to its child.
+    pub(crate) fn child(&mut self, parent: u32, child: u32) -> Result<(), AllocError>
+        ensures file { OnOk result (self.new.file ≡ self.old.file) }
+        ensures nodes { OnOk result (self.new.nodes ≡ self.old.nodes) }
+        ensures edges { OnOk result (self.new.edges ≡ self.old.edges ++ ast parent child ∷ []) }
+    {
+        self.edges.push(Edge {
+            from: parent,
+            kind: EdgeKind::Ast,
+            to: child,
+        })?;
+        Ok(())
+    }
+
+    /// Adds an edge from an operator to its argument.
+    fn argument(&mut self, call: u32, node: u32) -> Result<(), AllocError>
+        ensures file { OnOk result (self.new.file ≡ self.old.file) }
+        ensures nodes { OnOk result (self.new.nodes ≡ self.old.nodes) }
+        ensures edges { OnOk result
+            (self.new.edges ≡ self.old.edges ++ argument_edge call node ∷ []) }
+    {
+        self.edges.push(Edge {
+            from: call,
+            kind: EdgeKind::Argument,
+            to: node,
+        })?;
+        Ok(())
+    }
+
+    /// Adds the edges from an operator to its two arguments.
+    pub(crate) fn arguments(&mut self, call: u32, left: u32, right: u32) -> Result<(), AllocError>
+        ensures file { OnOk result (self.new.file ≡ self.old.file) }
+        ensures nodes { OnOk result (self.new.nodes ≡ self.old.nodes) }
+        ensures edges { OnOk result
+            (self.new.edges ≡ self.old.edges ++ call_edges call left right) }
+    {
+        self.child(call, left)?;
+        self.child(call, right)?;
+        self.argument(call, left)?;
+        self.argument(call, right)
+    }
+
+    /// Adds the node of an operator, whose construct begins with the first token.
+    pub(crate) fn call(
+        &mut self,
+        operator: u32,
+        first: Option<u32>,
+        place: Place,
+    ) -> Result<(), AllocError>
+        ensures file { OnOk result (self.new.file ≡ self.old.file) }
+        ensures nodes { OnOk result (self.new.nodes ≡
+            self.old.nodes ++ call_node self.old.file operator first place ∷ []) }
+        ensures edges { OnOk result (self.new.edges ≡ self.old.edges) }
+    {
+        let line = self.line(first);
+        self.node(Node {
+            form: Form::Call,
+            token: Some(operator),
+            line,
+            place,
+        })
+    }
+
+    /// Adds the node of an operand.
+    pub(crate) fn operand(&mut self, operand: &Prefixed, place: Place) -> Result<(), AllocError>
+        ensures file { OnOk result (self.new.file ≡ self.old.file) }
+        ensures nodes { OnOk result (self.new.nodes ≡
+            self.old.nodes ++ operand_node self.old.file operand.now place ∷ []) }
+        ensures edges { OnOk result (self.new.edges ≡ self.old.edges) }
+    {
+        let (form, token) = match &operand.base.form {
+            BaseForm::Name(token) => (Form::Identifier, Some(*token)),
+            BaseForm::Literal(tokens) => (Form::Literal, tokens.items().first().copied()),
+        };
+        let line = self.line(token);
+        self.node(Node {
+            form,
+            token,
+            line,
+            place,
+        })
+    }
+
+    /// The layer, with its edges in the order of printing.
+    pub(crate) fn finish(self) -> SyntaxLayer
+        requires nodes { length self.nodes < 2 ^ 32 }
+        requires edges { length self.edges < 2 ^ 32 }
+        ensures nodes { layer_nodes self.entry.file result ≡ self.entry.nodes }
+        ensures edges { layer_edges result ≡ in_order self.entry.edges }
+    {
+        let Builder {
+            source: _,
+            nodes,
+            mut edges,
+        } = self;
+        sort_edges(&mut edges);
+        SyntaxLayer { nodes, edges }
+    }
+}

@@ -1,0 +1,53 @@
+ghost use Rattle.std.specs.Prelude.{◌≡◌, map};
+ghost use Rattle.cpg_schema.specs.Names.{kind_place};
+ghost use Rattle.cpg_schema.specs.Order.{edge_cmp, in_order};
+ghost use Rattle.ast_layer.specs.Building.{plain_edge_of};
+
+use cpg_schema::EdgeKind;
+use cpg_schema::laws::law_only_order;
+use std::cmp::Ordering;
+
+/// An edge of the layer, between the numbers of two nodes.
+#[derive(Clone, Copy, Debug)]
+pub(crate) struct Edge {
+    pub(crate) from: u32,
+    pub(crate) kind: EdgeKind,
+    pub(crate) to: u32,
+}
+
+/// The place of a kind in the order of printing.
+fn place_of(kind: EdgeKind) -> u8
+    ensures { result ≡ kind_place kind }
+{
+    match kind {
+        EdgeKind::Ast => 0,
+        EdgeKind::Condition => 1,
+        EdgeKind::Argument => 2,
+        EdgeKind::SourceFile => 3,
+        EdgeKind::Contains => 4,
+        EdgeKind::ParameterLink => 5,
+        EdgeKind::EvalType => 6,
+        EdgeKind::Ref => 7,
+        EdgeKind::Call => 8,
+        EdgeKind::Cfg => 9,
+        EdgeKind::ReachingDef => 10,
+    }
+}
+
+/// By from, kind and to.
+fn compare(a: &Edge, b: &Edge) -> Ordering
+    ensures { result ≡ edge_cmp (plain_edge_of a.now) (plain_edge_of b.now) }
+{
+    a.from
+        .cmp(&b.from)
+        .then(place_of(a.kind).cmp(&place_of(b.kind)))
+        .then(a.to.cmp(&b.to))
+}
+
+/// Puts edges in the order of printing.
+pub(crate) fn sort_edges(edges: &mut [Edge])
+    ensures { map plain_edge_of edges.new ≡ in_order (map plain_edge_of edges.old) }
+{
+    law_only_order();
+    edges.sort_unstable_by(|a, b| compare(a, b));
+}

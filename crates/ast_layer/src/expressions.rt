@@ -1,0 +1,120 @@
+//! The layer of an expression: a `CALL` comes before its arguments.
+
+ghost use Rattle.std.specs.Prelude.{◌≡◌, ◌+◌, ◌≤◌, ◌++◌, ◌∷◌, length, IfOk, OnOk};
+ghost use Rattle.ast_layer.specs.Grouping.{grouped_assign, grouped_binary, operand_token};
+ghost use Rattle.ast_layer.specs.Nodes.{operand_node};
+ghost use Rattle.ast_layer.specs.Expressions.{grouped_edges, grouped_nodes, grouped_size};
+ghost use Rattle.ast_layer.specs.Building.{operands_nodes};
+
+use crate::builder::Builder;
+use crate::node::Place;
+use crate::walk::MAX_NODES;
+use c_tree::{Assign, BaseForm, Binary, Prefixed};
+use std::alloc::AllocError;
+
+/// The first token of an operand.
+fn token_of(operand: &Prefixed) -> Option<u32>
+    ensures { result ≡ operand_token operand.now }
+{
+    match &operand.base.form {
+        BaseForm::Name(token) => Some(*token),
+        BaseForm::Literal(tokens) => tokens.items().first().copied(),
+    }
+}
+
+impl<'s> Builder<'s> {
+    /// Adds the layer of an assignment expression.
+    pub(crate) fn assign(&mut self, assign: &Assign, place: Place) -> Result<(), AllocError>
+        requires room { length self.old.nodes + grouped_size (grouped_assign assign.now) ≤
+            MAX_NODES }
+        ensures file { OnOk result (self.new.file ≡ self.old.file) }
+        ensures nodes { OnOk result (self.new.nodes ≡
+            self.old.nodes ++ grouped_nodes self.old.file place (grouped_assign assign.now)) }
+        ensures edges { OnOk result (self.new.edges ≡ self.old.edges ++
+            grouped_edges (length self.old.nodes) (grouped_assign assign.now)) }
+    {
+        let place = self.targets(assign, place)?;
+        self.binary(&assign.value.last, place)
+    }
+
+    /// Adds the assignments to the targets, each with its left side, and returns the place of the
+    /// value that is assigned.
+    fn targets(&mut self, assign: &Assign, place: Place) -> Result<Place, AllocError>
+        requires room { length self.old.nodes + grouped_size (grouped_assign assign.now) ≤
+            MAX_NODES }
+        ensures file { OnOk result (self.new.file ≡ self.old.file) }
+        ensures nodes { IfOk result (λ after. self.new.nodes ++
+            grouped_nodes self.old.file after (grouped_binary assign.now.value.last) ≡
+            self.old.nodes ++ grouped_nodes self.old.file place (grouped_assign assign.now)) }
+        ensures edges { OnOk result (self.new.edges ++
+            grouped_edges (length self.new.nodes) (grouped_binary assign.now.value.last) ≡
+            self.old.edges ++ grouped_edges (length self.old.nodes) (grouped_assign assign.now)) }
+        ensures left { OnOk result (length self.new.nodes +
+            grouped_size (grouped_binary assign.now.value.last) ≤ MAX_NODES) }
+    {
+        let targets = assign.targets.items();
+        let mut place = place;
+        for target in targets {
+            let call = self.count();
+            self.call(target.1, token_of(&target.0), place)?;
+            self.arguments(call, call + 1, call + 2)?;
+            self.operand(&target.0, Place::argument(1))?;
+            place = Place::argument(2);
+        }
+        Ok(place)
+    }
+
+    /// Adds the layer of operands that are joined by operators, the last one outermost.
+    fn binary(&mut self, binary: &Binary, place: Place) -> Result<(), AllocError>
+        requires room { length self.old.nodes + grouped_size (grouped_binary binary.now) ≤
+            MAX_NODES }
+        ensures file { OnOk result (self.new.file ≡ self.old.file) }
+        ensures nodes { OnOk result (self.new.nodes ≡
+            self.old.nodes ++ grouped_nodes self.old.file place (grouped_binary binary.now)) }
+        ensures edges { OnOk result (self.new.edges ≡ self.old.edges ++
+            grouped_edges (length self.old.nodes) (grouped_binary binary.now)) }
+    {
+        let place = self.operators(binary, place)?;
+        self.operand(&binary.first, place)?;
+        self.operands(binary.rest.items())
+    }
+
+    /// Adds the operators, and returns the place of the first operand.
+    fn operators(&mut self, binary: &Binary, place: Place) -> Result<Place, AllocError>
+        requires room { length self.old.nodes + grouped_size (grouped_binary binary.now) ≤
+            MAX_NODES }
+        ensures file { OnOk result (self.new.file ≡ self.old.file) }
+        ensures nodes { IfOk result (λ after. self.new.nodes ++
+            operand_node self.old.file binary.now.first after ∷
+            operands_nodes self.old.file binary.now.rest ≡
+            self.old.nodes ++ grouped_nodes self.old.file place (grouped_binary binary.now)) }
+        ensures edges { OnOk result (self.new.edges ≡ self.old.edges ++
+            grouped_edges (length self.old.nodes) (grouped_binary binary.now)) }
+    {
+        let first = token_of(&binary.first);
+        let rest = binary.rest.items();
+        let mut place = place;
+        let mut left = rest.len();
+        while left > 0 {
+            left -= 1;
+            let call = self.count();
+            self.call(rest[left].0, first, place)?;
+            self.arguments(call, call + 1, call + 2 + 2 * left as u32)?;
+            place = Place::argument(1);
+        }
+        Ok(place)
+    }
+
+    /// Adds the right operands of a chain.
+    fn operands(&mut self, rest: &[(u32, Prefixed)]) -> Result<(), AllocError>
+        ensures file { OnOk result (self.new.file ≡ self.old.file) }
+        ensures nodes { OnOk result
+            (self.new.nodes ≡ self.old.nodes ++ operands_nodes self.old.file rest.now) }
+        ensures edges { OnOk result (self.new.edges ≡ self.old.edges) }
+    {
+        for next in rest {
+            self.operand(&next.1, Place::argument(2))?;
+        }
+        Ok(())
+    }
+}

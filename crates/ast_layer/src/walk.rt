@@ -1,0 +1,101 @@
+//! The walk over a tree, which makes its layer.
+
+ghost use Rattle.std.specs.Prelude.{◌≡◌, ◌+◌, ◌≤◌, [], ◌++◌, length, IfOk, OnOk};
+ghost use Rattle.cpg_schema.specs.Graph.{plain_graph};
+ghost use Rattle.cpg_schema.specs.Lines.{graph_lines};
+ghost use Rattle.cpg_schema.specs.Order.{in_order};
+ghost use Rattle.ast_layer.specs.Source.{file_of};
+ghost use Rattle.ast_layer.specs.SyntaxLayer.{functions_edges, functions_nodes, functions_size, syntax_layer as graph_of, unit_edges, unit_nodes, unit_size};
+ghost use Rattle.ast_layer.specs.Layer.{layer_edges, layer_nodes};
+
+use crate::builder::Builder;
+use crate::layer::SyntaxLayer;
+use crate::node::{Form, Node, Place};
+use crate::source::Source;
+use c_tree::{Item, Unit};
+use std::alloc::{AllocError, Global};
+
+/// How many nodes a layer has at most.
+pub const MAX_NODES: usize = 2_147_483_648;
+
+/// The syntax layer of a file, whose tree is the unit: each construct of the tree is visited once.
+/// The layer keeps numbers of tokens, and a `LayerView` has the texts.
+///
+/// `laws::law_few_nodes` shows the room from the number of tokens.
+pub fn syntax_layer(
+    alloc: Global,
+    source: Source<'_>,
+    unit: &Unit,
+) -> Result<SyntaxLayer, AllocError>
+    requires room { unit_size unit.now ≤ MAX_NODES }
+    ensures nodes { IfOk result (λ layer. layer_nodes (file_of source.entry) layer ≡
+        (graph_of source.entry.name.now source.entry.bytes.now source.entry.tokens.now
+        unit.now).nodes) }
+    ensures edges { IfOk result (λ layer. layer_edges layer ≡
+        in_order (graph_of source.entry.name.now source.entry.bytes.now source.entry.tokens.now
+        unit.now).edges) }
+    ensures in_order { IfOk result (λ layer. in_order (layer_edges layer) ≡ layer_edges layer) }
+    ensures lines { IfOk result (λ layer.
+        graph_lines (plain_graph (layer_nodes (file_of source.entry) layer) (layer_edges layer)) ≡
+        graph_lines (graph_of source.entry.name.now source.entry.bytes.now
+        source.entry.tokens.now unit.now)) }
+{
+    let mut builder = Builder::new(alloc, source);
+    builder.unit(unit)?;
+    Ok(builder.finish())
+}
+
+impl<'s> Builder<'s> {
+    /// Adds the layer of a file where there is none yet.
+    #[tactic(auto, using(crate::proofs::Sizes::size_laws))]
+    fn unit(&mut self, unit: &Unit) -> Result<(), AllocError>
+        requires none { self.old.nodes ≡ [] }
+        requires room { unit_size unit.now ≤ MAX_NODES }
+        ensures file { OnOk result (self.new.file ≡ self.old.file) }
+        ensures nodes { OnOk result (self.new.nodes ≡ unit_nodes self.old.file unit.now) }
+        ensures edges { OnOk result (self.new.edges ≡ self.old.edges ++ unit_edges unit.now) }
+    {
+        self.node(Node {
+            form: Form::GlobalMethod,
+            token: None,
+            line: 1,
+            place: Place::child(1),
+        })?;
+        self.child(0, 1)?;
+        self.node(Node {
+            form: Form::Block,
+            token: None,
+            line: 1,
+            place: Place::child(1),
+        })?;
+        self.functions(unit.items.items())?;
+        let end = self.count();
+        self.child(0, end)?;
+        self.node(Node {
+            form: Form::GlobalReturn,
+            token: None,
+            line: 1,
+            place: Place::child(2),
+        })
+    }
+
+    /// Adds the functions of a file, which are the children of node 1.
+    #[tactic(auto, using(crate::proofs::Sizes::size_laws))]
+    fn functions(&mut self, items: &[Item]) -> Result<(), AllocError>
+        requires room { length self.old.nodes + functions_size items.now ≤ MAX_NODES }
+        ensures file { OnOk result (self.new.file ≡ self.old.file) }
+        ensures nodes { OnOk result (self.new.nodes ≡
+            self.old.nodes ++ functions_nodes self.old.file 1 items.now) }
+        ensures edges { OnOk result (self.new.edges ≡
+            self.old.edges ++ functions_edges (length self.old.nodes) items.now) }
+    {
+        let mut order = 0;
+        for item in items {
+            order += 1;
+            let at = self.count();
+            self.child(1, at)?;
+            self.function(item, order)?;
+        }
+        Ok(())
+    }
+}
