@@ -22,11 +22,11 @@ def blanks(length):
 
 
 def functions(length):
-    """Functions of one statement each, as C11 has them; joern reads their tokens, and then refuses the file."""
-    text = bytearray(b"int x; int y;\n")
+    """Functions of one statement each."""
+    text = bytearray()
     number = 0
     while True:
-        line = b"int f%d(void){ x = %d + y; }\n" % (number, number)
+        line = b"int f%d(void){ %d + %d; }\n" % (number, number, number)
         if len(text) + len(line) > length:
             return bytes(text)
         text += line
@@ -59,7 +59,7 @@ def peak_kilobytes(words, folder):
 def main(runs):
     cases = [
         ("blanks, 16 MiB", "blank.i", blanks(LIMIT), 0, 0),
-        ("functions, 16 MiB, read as tokens and refused", "functions.i", functions(LIMIT), 3, 0),
+        ("functions, 16 MiB", "functions.i", functions(LIMIT), 0, 0),
     ]
     print("| Case | Program | Median of %d | Ratio to joern | Peak memory |" % runs)
     print("|---|---|---|---|---|")

@@ -4,3 +4,5 @@ pub mod ReadFaults
 pub mod WriteFaults
 pub mod Completing
 pub mod OneOutcome
+pub mod FewTokens
+pub mod FewNodes

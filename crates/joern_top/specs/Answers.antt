@@ -2,6 +2,7 @@
 use Rattle.std.specs.Prelude.{ℕ, ◌≡◌, ◌⊎◌, List, [], Option}
 use Rattle.joern_io.specs.Faults.{Rose}
 use Rattle.joern_io.specs.Writing.{Appends, AppendsProperPrefix}
+use Rattle.joern_top.specs.Reading.{read_graph}
 use Rattle.joern_top.specs.declared.status.Status.{Status}
 use Rattle.joern_top.specs.declared.status.Status.TheVariants as status
 use Rattle.joern_top.specs.declared.answer.Answer.{Answer}
@@ -14,7 +15,7 @@ outcome_of answer.Usage = usage_outcome
 outcome_of (answer.ReadFault name) = read_fault_outcome name.now
 outcome_of answer.TooLarge = large_file_outcome
 outcome_of (answer.Unbuilt name) = unbuilt_outcome name.now
-outcome_of (answer.Dump name) = graph_outcome name.now
+outcome_of (answer.Dump read) = graph_outcome (read_graph read)
 outcome_of answer.NoMemory = outcome status.NoMemory []
 
 -- the answer is neither that a file could not be read nor that memory is wanting

@@ -2,8 +2,9 @@ pub mod Status
 pub mod Words
 pub mod Commands
 pub mod Source
-pub mod SyntaxLayer
 pub mod Refusals
 pub mod Run
+pub mod LayerGraph
+pub mod Reading
 pub mod Answers
 pub mod Headline

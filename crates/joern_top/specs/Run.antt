@@ -2,14 +2,17 @@
 -- the order of refusals, and the first that holds decides.
 use Rattle.std.specs.Prelude.{ℕ, ◌≡◌, ◌<◌, ◌≤◌, ◌⊎◌, List, Option, Some, None, length}
 use Rattle.joern_io.specs.Held.{Held, file_of}
+use Rattle.c_lexer.specs.declared.token.Token.{Token}
+use Rattle.c_tree.specs.declared.tree.Unit.{Unit}
+use Rattle.cpg_schema.specs.Graph.{PlainGraph}
 use Rattle.cpg_schema.specs.Lines.{graph_lines}
+use Rattle.ast_layer.specs.SyntaxLayer.{syntax_layer}
 use Rattle.joern_top.specs.declared.status.Status.{Status}
 use Rattle.joern_top.specs.declared.status.Status.TheVariants as status
 use Rattle.joern_top.specs.declared.status.Reason.TheVariants as reason
 use Rattle.joern_top.specs.declared.status.What.TheVariants as what
 use Rattle.joern_top.specs.Words.{Command, Dump, command}
-use Rattle.joern_top.specs.Source.{max_file_bytes, IsAccepted}
-use Rattle.joern_top.specs.SyntaxLayer.{file_graph}
+use Rattle.joern_top.specs.Source.{max_file_bytes, IsReadAs, IsAccepted}
 use Rattle.joern_top.specs.Refusals.{usage_line, read_fault_line, refused_line, limit_line}
 
 -- how a run ends, and all bytes that it writes
@@ -37,14 +40,15 @@ large_file_outcome = outcome (status.Limit what.FileBytes 0) (limit_line what.Fi
 abbrev pub unbuilt_outcome : List ℕ → Outcome
 unbuilt_outcome name = outcome (status.SourceRefused 0 0 reason.Unbuilt) (refused_line name 1 1 reason.Unbuilt)
 
--- the graph of the file of this name
-abbrev pub graph_outcome : List ℕ → Outcome
-graph_outcome name = outcome status.Ok (graph_lines (file_graph name))
+-- the lines of a graph
+abbrev pub graph_outcome : PlainGraph → Outcome
+graph_outcome graph = outcome status.Ok (graph_lines graph)
 
--- the outcome for a source of this name with these bytes
+-- The outcome for a source of this name with these bytes: the syntax layer of its tree, where it has one.
 abbrev pub IsSourceOutcome : List ℕ → List ℕ → Outcome → Type 0
 IsSourceOutcome name bytes o =
-    (IsAccepted bytes × (o ≡ graph_outcome name)) ⊎ ((IsAccepted bytes → ⊥) × (o ≡ unbuilt_outcome name))
+    ((tokens : List Token) × (unit : Unit) × IsReadAs bytes tokens unit × (o ≡ graph_outcome (syntax_layer name bytes tokens unit)))
+    ⊎ ((IsAccepted bytes → ⊥) × (o ≡ unbuilt_outcome name))
 
 -- the outcome for the file of this name, which has these bytes if it is held
 abbrev pub IsFileOutcome : List ℕ → Option (List ℕ) → Outcome → Type 0

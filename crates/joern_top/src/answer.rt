@@ -1,17 +1,18 @@
-ghost use Rattle.std.specs.Prelude.{◌≡◌, ◌≤◌, ◌⊎◌, length, Some, IfSome, map, string_bytes, IsNone};
+ghost use Rattle.std.specs.Prelude.{◌≡◌, ◌≤◌, ◌⊎◌, vec_len, Some, IfSome, map, string_bytes, IsNone};
 ghost use Rattle.joern_io.specs.Faults.{Rose};
 ghost use Rattle.joern_io.specs.Held.{file_of, Lacks};
 ghost use Rattle.joern_top.specs.Answers.{outcome_of, IsDecided, IfReadFault};
 ghost use Rattle.joern_top.specs.Run.{IsOutcome, IsFileOutcome};
 ghost use Rattle.joern_top.specs.Words.{Dump, command};
 
+use crate::read::ReadSource;
 use crate::source::{MAX_FILE_BYTES, SourceStop, read_source};
 use crate::words::{Command, read_words};
 use joern_io::{Files, ReadStop, read_all};
 use std::alloc::Global;
 
 /// What is answered, before it is written.
-#[derive(Clone, Copy, Debug)]
+#[derive(Drop)]
 pub(crate) enum Answer<'a> {
     Usage,
     /// The file of this name could not be read.
@@ -19,8 +20,8 @@ pub(crate) enum Answer<'a> {
     TooLarge,
     /// The source of this name is outside the part of the language that is built.
     Unbuilt { name: &'a str },
-    /// The graph of the file of this name, which holds blanks alone.
-    Dump { name: &'a str },
+    /// The syntax layer of a source.
+    Dump { read: ReadSource<'a> },
     NoMemory,
 }
 
@@ -54,7 +55,7 @@ fn dump_answer<'a, F: Files>(alloc: Global, name: &'a str, files: &mut F) -> Ans
         × (Rose (F.faults files.old) (F.faults files.new) ⊎ Lacks (F.held files.old) name.now)) }
 {
     match read_all(alloc, files, name, MAX_FILE_BYTES) {
-        Ok(bytes) => source_answer(alloc, name, &bytes),
+        Ok(bytes) => source_answer(alloc, name, bytes),
         Err(ReadStop::Failed) => Answer::ReadFault { name },
         Err(ReadStop::TooLarge) => Answer::TooLarge,
         Err(ReadStop::Memory) => Answer::NoMemory,
@@ -62,15 +63,15 @@ fn dump_answer<'a, F: Files>(alloc: Global, name: &'a str, files: &mut F) -> Ans
 }
 
 /// The answer to a dump of a file with these bytes.
-fn source_answer<'a>(alloc: Global, name: &'a str, bytes: &[u8]) -> Answer<'a>
-    requires { length bytes.now ≤ MAX_FILE_BYTES }
+fn source_answer<'a>(alloc: Global, name: &'a str, bytes: Vec<u8>) -> Answer<'a>
+    requires { vec_len bytes ≤ MAX_FILE_BYTES }
     ensures decided { IsDecided result →
-        IsFileOutcome name.now (Some bytes.now) (outcome_of result) }
+        IsFileOutcome name.now (Some bytes.items) (outcome_of result) }
     ensures no_usage { result ≡ Answer.Usage → ⊥ }
     ensures no_read_fault { IfReadFault result (λ _. ⊥) }
 {
-    match read_source(alloc, bytes) {
-        Ok(()) => Answer::Dump { name },
+    match read_source(alloc, name, bytes) {
+        Ok(read) => Answer::Dump { read },
         Err(SourceStop::Unbuilt) => Answer::Unbuilt { name },
         Err(SourceStop::Memory) => Answer::NoMemory,
     }

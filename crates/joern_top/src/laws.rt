@@ -7,15 +7,15 @@ ghost use Rattle.joern_top.specs.Headline.{CanAnswer};
 ghost use Rattle.joern_top.specs.Run.{Outcome, IsOutcome};
 
 use c_lexer::laws::law_one_reading;
+use first_grammar::laws::law_one_unit;
 
-/// The words and the held files have one outcome.
+/// The words and the held files have at most one outcome.
 pub fn law_one_outcome()
-    ensures some { (words : List (List ℕ)) (held : Held) →
-        (o : Outcome) × IsOutcome words held o }
-    ensures one { (words : List (List ℕ)) (held : Held) (o p : Outcome) →
+    ensures { (words : List (List ℕ)) (held : Held) (o p : Outcome) →
         IsOutcome words held o → IsOutcome words held p → o ≡ p }
 {
     law_one_reading();
+    law_one_unit();
 }
 
 /// The outcome is Ok where the words give a command, each of its files is held and within the

@@ -3,8 +3,8 @@
 #![tactic(auto)]
 
 mod answer;
-mod file_graph;
 pub mod laws;
+mod read;
 mod source;
 mod status;
 #[cfg(test)]

@@ -64,15 +64,48 @@ fn a_file_of_blanks_has_three_nodes_and_two_edges(rt: HostRuntime) -> Result<(),
     Ok(())
 }
 
+// `int f(void){x=1;}`: the block of `<global>` is node 1, and that of `f` node 3.
 #[test]
-fn a_file_of_more_than_blanks_is_unbuilt(rt: HostRuntime) -> Result<(), Fail> {
-    let cases: [&[u8]; 6] = [
+fn an_assignment_has_its_target_and_its_value(rt: HostRuntime) -> Result<(), Fail> {
+    let lines = "node 0 METHOD NAME=<global> FILENAME=a.c LINE_NUMBER=1 ORDER=1\n\
+        node 1 BLOCK LINE_NUMBER=1 ORDER=1\n\
+        node 2 METHOD NAME=f FILENAME=a.c LINE_NUMBER=1 ORDER=1\n\
+        node 3 BLOCK LINE_NUMBER=1 ORDER=1\n\
+        node 4 CALL NAME=<operator>.assignment LINE_NUMBER=1 ORDER=1\n\
+        node 5 IDENTIFIER NAME=x LINE_NUMBER=1 ORDER=1 ARGUMENT_INDEX=1\n\
+        node 6 LITERAL CODE=1 LINE_NUMBER=1 ORDER=2 ARGUMENT_INDEX=2\n\
+        node 7 METHOD_RETURN LINE_NUMBER=1 ORDER=2 TYPE_FULL_NAME=int\n\
+        node 8 METHOD_RETURN LINE_NUMBER=1 ORDER=2 TYPE_FULL_NAME=void\n\
+        edge 0 AST 1\n\
+        edge 0 AST 8\n\
+        edge 1 AST 2\n\
+        edge 2 AST 3\n\
+        edge 2 AST 7\n\
+        edge 3 AST 4\n\
+        edge 4 AST 5\n\
+        edge 4 AST 6\n\
+        edge 4 ARGUMENT 5\n\
+        edge 4 ARGUMENT 6\n";
+    let bytes = Vec::from_slice(rt.alloc(), b"int f(void){x=1;}")?;
+    let files = shelf(rt.alloc(), bytes, 8, &[])?;
+    let run = run_on(rt.alloc(), &["--do", "dump", "a.c"], files, 64, &[])?;
+    assert_eq!(rt; run.status, Status::Ok);
+    assert_eq!(rt; run.out.took(), lines.as_bytes());
+    Ok(())
+}
+
+#[test]
+fn a_file_outside_the_built_part_is_unbuilt(rt: HostRuntime) -> Result<(), Fail> {
+    let cases: [&[u8]; 9] = [
         b"x",
         b" ;",
         b"\n\n$",
-        b"\x08",
+        b"/* x */",
         b"\x0E",
-        b"int f(void){x=1;}",
+        b"int f(void){x=1*2;}",
+        b"char f(void){}",
+        b"int f(void){} int f(void){}",
+        b"int f(void){a+b=c;}",
     ];
     for bytes in cases {
         let files = shelf(rt.alloc(), Vec::from_slice(rt.alloc(), bytes)?, 8, &[])?;

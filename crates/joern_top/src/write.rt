@@ -1,10 +1,11 @@
 ghost use Rattle.std.specs.Prelude.{◌≤◌};
+ghost use Rattle.joern_top.specs.Reading.{read_graph};
 ghost use Rattle.joern_top.specs.Answers.{outcome_of, Writes};
 ghost use Rattle.joern_top.specs.Run.{outcome, read_fault_outcome, large_file_outcome, unbuilt_outcome, graph_outcome};
 ghost use Rattle.graph_text.specs.LineParts.{line_text};
 
 use crate::answer::Answer;
-use crate::file_graph::FileGraph;
+use crate::read::ReadSource;
 use crate::status::{Reason, Status, What};
 use graph_text::{LinePart, print_graph, print_line};
 use joern_io::{Failed, Sink};
@@ -20,18 +21,18 @@ pub(crate) fn write_answer<S: Sink>(answer: &Answer<'_>, out: &mut S) -> Status
         Answer::ReadFault { name } => refuse_file(name, out),
         Answer::TooLarge => refuse_large_file(out),
         Answer::Unbuilt { name } => refuse_source(name, out),
-        Answer::Dump { name } => write_dump(name, out),
+        Answer::Dump { read } => write_dump(read, out),
         Answer::NoMemory => Status::NoMemory,
     }
 }
 
-/// Prints the graph of the file of this name.
-fn write_dump<S: Sink>(name: &str, out: &mut S) -> Status
+/// Prints the syntax layer of a source.
+fn write_dump<S: Sink>(read: &ReadSource<'_>, out: &mut S) -> Status
     ensures never_falls { S.faults out.old ≤ S.faults out.new }
-    ensures written { Writes (graph_outcome name.now)
+    ensures written { Writes (graph_outcome (read_graph read.now))
         (S.took out.old) (S.took out.new) (S.faults out.old) (S.faults out.new) result }
 {
-    match print_graph(&FileGraph { name }, out) {
+    match print_graph(&read.view(), out) {
         Ok(()) => Status::Ok,
         Err(Failed) => Status::WriteFault,
     }
