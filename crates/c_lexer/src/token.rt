@@ -33,3 +33,6 @@ pub struct Token {
     pub line: u32,
     pub column: u32,
 }
+
+// A file has a token in each few bytes.
+const _: () = prove!(size_of::<Token>() <= 24);

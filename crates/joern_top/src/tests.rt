@@ -177,7 +177,8 @@ fn a_file_that_cannot_be_read_is_named(rt: HostRuntime) -> Result<(), Fail> {
 
 #[test]
 fn after_a_fault_of_the_sink_nothing_more_is_written(rt: HostRuntime) -> Result<(), Fail> {
-    let files = shelf(rt.alloc(), Vec::new(rt.alloc()), 8, &[])?;
+    let bytes = Vec::from_slice(rt.alloc(), b"int f(void){x=1;}")?;
+    let files = shelf(rt.alloc(), bytes, 8, &[])?;
     let run = run_on(rt.alloc(), &["--do", "dump", "a.c"], files, 1, &[11])?;
     assert_eq!(rt; run.status, Status::WriteFault);
     assert_eq!(rt; run.status.code(), 7);
