@@ -2,40 +2,40 @@
 
 use Rattle.std.specs.Prelude.{ℕ, List, [], ◌∷◌, codes}
 use Rattle.std.specs.List.{Contains}
-use Rattle.c_lexer.specs.declared.keyword.TheConstants.{KEY_AUTO, KEY_BREAK, KEY_CASE, KEY_CHAR, KEY_CONST, KEY_CONTINUE, KEY_DEFAULT, KEY_DO, KEY_DOUBLE, KEY_ELSE, KEY_ENUM, KEY_EXTERN, KEY_FLOAT, KEY_FOR, KEY_GOTO, KEY_IF, KEY_INLINE, KEY_INT, KEY_LONG, KEY_REGISTER, KEY_RESTRICT, KEY_RETURN, KEY_SHORT, KEY_SIGNED, KEY_SIZEOF, KEY_STATIC, KEY_STRUCT, KEY_SWITCH, KEY_TYPEDEF, KEY_UNION, KEY_UNSIGNED, KEY_VOID, KEY_VOLATILE, KEY_WHILE, KEY_ALIGNAS, KEY_ALIGNOF, KEY_ATOMIC, KEY_BOOL, KEY_COMPLEX, KEY_GENERIC, KEY_IMAGINARY, KEY_NORETURN, KEY_STATIC_ASSERT, KEY_THREAD_LOCAL, KEY_BUILTIN_VA_LIST, KEY_FLOAT32, KEY_FLOAT64, KEY_FLOAT128, KEY_FLOAT32X, KEY_FLOAT64X, KEY_ATTRIBUTE, KEY_EXTENSION, KEY_ASM, KEY_INT128}
 
 -- The keywords of C11, and after `_Thread_local` ours: those that compilers add to system headers.
--- An alternative spelling has the number of the keyword that it stands for.
+-- A keyword's number is its place in this list, from 0. An alternative spelling has the number of the
+-- keyword that it stands for.
 unfoldable pub keywords : List (List ℕ × ℕ)
 keywords =
-    (codes "auto", KEY_AUTO) ∷ (codes "break", KEY_BREAK) ∷ (codes "case", KEY_CASE) ∷
-    (codes "char", KEY_CHAR) ∷ (codes "const", KEY_CONST) ∷ (codes "continue", KEY_CONTINUE) ∷
-    (codes "default", KEY_DEFAULT) ∷ (codes "do", KEY_DO) ∷ (codes "double", KEY_DOUBLE) ∷
-    (codes "else", KEY_ELSE) ∷ (codes "enum", KEY_ENUM) ∷ (codes "extern", KEY_EXTERN) ∷
-    (codes "float", KEY_FLOAT) ∷ (codes "for", KEY_FOR) ∷ (codes "goto", KEY_GOTO) ∷
-    (codes "if", KEY_IF) ∷ (codes "inline", KEY_INLINE) ∷ (codes "int", KEY_INT) ∷
-    (codes "long", KEY_LONG) ∷ (codes "register", KEY_REGISTER) ∷
-    (codes "restrict", KEY_RESTRICT) ∷ (codes "return", KEY_RETURN) ∷ (codes "short", KEY_SHORT) ∷
-    (codes "signed", KEY_SIGNED) ∷ (codes "sizeof", KEY_SIZEOF) ∷ (codes "static", KEY_STATIC) ∷
-    (codes "struct", KEY_STRUCT) ∷ (codes "switch", KEY_SWITCH) ∷ (codes "typedef", KEY_TYPEDEF) ∷
-    (codes "union", KEY_UNION) ∷ (codes "unsigned", KEY_UNSIGNED) ∷ (codes "void", KEY_VOID) ∷
-    (codes "volatile", KEY_VOLATILE) ∷ (codes "while", KEY_WHILE) ∷
-    (codes "_Alignas", KEY_ALIGNAS) ∷ (codes "_Alignof", KEY_ALIGNOF) ∷
-    (codes "_Atomic", KEY_ATOMIC) ∷ (codes "_Bool", KEY_BOOL) ∷ (codes "_Complex", KEY_COMPLEX) ∷
-    (codes "_Generic", KEY_GENERIC) ∷ (codes "_Imaginary", KEY_IMAGINARY) ∷
-    (codes "_Noreturn", KEY_NORETURN) ∷ (codes "_Static_assert", KEY_STATIC_ASSERT) ∷
-    (codes "_Thread_local", KEY_THREAD_LOCAL) ∷ (codes "__inline", KEY_INLINE) ∷
-    (codes "__inline__", KEY_INLINE) ∷ (codes "__restrict", KEY_RESTRICT) ∷
-    (codes "__restrict__", KEY_RESTRICT) ∷ (codes "__const", KEY_CONST) ∷
-    (codes "__volatile__", KEY_VOLATILE) ∷ (codes "__signed__", KEY_SIGNED) ∷
-    (codes "__builtin_va_list", KEY_BUILTIN_VA_LIST) ∷ (codes "_Float32", KEY_FLOAT32) ∷
-    (codes "_Float64", KEY_FLOAT64) ∷ (codes "_Float128", KEY_FLOAT128) ∷
-    (codes "_Float32x", KEY_FLOAT32X) ∷ (codes "_Float64x", KEY_FLOAT64X) ∷
-    (codes "__attribute__", KEY_ATTRIBUTE) ∷ (codes "__extension__", KEY_EXTENSION) ∷
-    (codes "__asm__", KEY_ASM) ∷ (codes "__const__", KEY_CONST) ∷
-    (codes "__volatile", KEY_VOLATILE) ∷ (codes "__signed", KEY_SIGNED) ∷
-    (codes "__complex__", KEY_COMPLEX) ∷ (codes "__alignof__", KEY_ALIGNOF) ∷
-    (codes "__int128", KEY_INT128) ∷ []
+    (codes "auto", 0) ∷ (codes "break", 1) ∷ (codes "case", 2) ∷
+    (codes "char", 3) ∷ (codes "const", 4) ∷ (codes "continue", 5) ∷
+    (codes "default", 6) ∷ (codes "do", 7) ∷ (codes "double", 8) ∷
+    (codes "else", 9) ∷ (codes "enum", 10) ∷ (codes "extern", 11) ∷
+    (codes "float", 12) ∷ (codes "for", 13) ∷ (codes "goto", 14) ∷
+    (codes "if", 15) ∷ (codes "inline", 16) ∷ (codes "int", 17) ∷
+    (codes "long", 18) ∷ (codes "register", 19) ∷
+    (codes "restrict", 20) ∷ (codes "return", 21) ∷ (codes "short", 22) ∷
+    (codes "signed", 23) ∷ (codes "sizeof", 24) ∷ (codes "static", 25) ∷
+    (codes "struct", 26) ∷ (codes "switch", 27) ∷ (codes "typedef", 28) ∷
+    (codes "union", 29) ∷ (codes "unsigned", 30) ∷ (codes "void", 31) ∷
+    (codes "volatile", 32) ∷ (codes "while", 33) ∷
+    (codes "_Alignas", 34) ∷ (codes "_Alignof", 35) ∷
+    (codes "_Atomic", 36) ∷ (codes "_Bool", 37) ∷ (codes "_Complex", 38) ∷
+    (codes "_Generic", 39) ∷ (codes "_Imaginary", 40) ∷
+    (codes "_Noreturn", 41) ∷ (codes "_Static_assert", 42) ∷
+    (codes "_Thread_local", 43) ∷ (codes "__inline", 16) ∷
+    (codes "__inline__", 16) ∷ (codes "__restrict", 20) ∷
+    (codes "__restrict__", 20) ∷ (codes "__const", 4) ∷
+    (codes "__volatile__", 32) ∷ (codes "__signed__", 23) ∷
+    (codes "__builtin_va_list", 51) ∷ (codes "_Float32", 52) ∷
+    (codes "_Float64", 53) ∷ (codes "_Float128", 54) ∷
+    (codes "_Float32x", 55) ∷ (codes "_Float64x", 56) ∷
+    (codes "__attribute__", 57) ∷ (codes "__extension__", 58) ∷
+    (codes "__asm__", 59) ∷ (codes "__const__", 4) ∷
+    (codes "__volatile", 32) ∷ (codes "__signed", 23) ∷
+    (codes "__complex__", 38) ∷ (codes "__alignof__", 35) ∷
+    (codes "__int128", 65) ∷ []
 
 -- The text spells the keyword with the number.
 abbrev pub IsKeyword : List ℕ → ℕ → Type 0
