@@ -15,8 +15,8 @@ use std::alloc::Global;
 /// Runs the command that the words give, and says how the run ended. It returns for all words,
 /// files and sinks.
 ///
-/// The words are those of the command line without the program's own name. All memory is taken
-/// before the first write.
+/// The words are those of the command line without the program's own name. With want of memory
+/// nothing is written.
 pub fn joern_one<F: Files, S: Sink>(
     alloc: Global,
     words: &[String],
