@@ -20,12 +20,12 @@ pub record Keeps (before now : Output) (text : List ℕ) : Type 0 where
   pub taken : Appends before.took now.took gone
   pub kept : gone ++ now.waiting.bytes ≡ before.waiting.bytes ++ text
 
--- the sink answered with a fault, once it had taken a proper prefix of what waited and the text
+-- the sink counted a fault, and took a proper prefix of what waited and the text
 pub record Fails (before now : Output) (text : List ℕ) : Type 0 where
   pub rose : Rose before.faults now.faults
   pub taken : AppendsProperPrefix before.took now.took (before.waiting.bytes ++ text)
 
--- A text was printed. After a fault nothing more is written.
+-- A text was printed. A printer that has failed stays so, and nothing more is taken.
 pub record Prints (before now : Output) (text : List ℕ) : Type 0 where
   pub never_falls : before.faults ≤ now.faults
   pub no_fault : now.waiting.failed ≡ false → (before.waiting.failed ≡ false) × Keeps before now text

@@ -60,8 +60,8 @@ impl Printer {
 
 /// Prints the lines of a graph whose edges stand in the order of printing. Takes no memory.
 ///
-/// `Failed` comes with a fault of the sink alone, at the first one, and a proper prefix of the
-/// lines was taken.
+/// `Failed` comes only where the sink counted a fault in this call. Then it took a proper prefix of
+/// the lines.
 pub fn print_graph<G: GraphView, S: Sink>(graph: &G, sink: &mut S) -> Result<(), Failed>
     requires { in_order (G.edges graph.now) ≡ G.edges graph.now }
     ensures never_falls { S.faults sink.old ≤ S.faults sink.new }

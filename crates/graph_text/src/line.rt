@@ -20,8 +20,8 @@ pub enum LinePart<'a> {
 
 /// Prints one line of these parts. Takes no memory.
 ///
-/// `Failed` comes with a fault of the sink alone, at the first one, and a proper prefix of the line
-/// was taken.
+/// `Failed` comes only where the sink counted a fault in this call. Then it took a proper prefix of
+/// the line.
 pub fn print_line<S: Sink>(parts: &[LinePart<'_>], sink: &mut S) -> Result<(), Failed>
     ensures never_falls { S.faults sink.old ≤ S.faults sink.new }
     ensures ok { OnOk result (Appends (S.took sink.old) (S.took sink.new) (line_text parts.now)) }

@@ -7,8 +7,8 @@ use crate::sink::Sink;
 
 /// Writes all of the bytes, piece by piece, without memory.
 ///
-/// `Failed` comes with a fault of the sink alone, at the first write that failed. Then the sink
-/// took a proper prefix of the bytes.
+/// `Failed` comes only where the sink counted a fault in this call. Then it took a proper prefix of
+/// the bytes.
 #[tactic(auto, using(crate::proofs::Appending::appending))]
 pub fn write_all<S: Sink>(sink: &mut S, bytes: &[u8]) -> Result<(), Failed>
     ensures never_falls { S.faults sink.old ≤ S.faults sink.new }
