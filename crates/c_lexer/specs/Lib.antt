@@ -1,7 +1,13 @@
 pub mod Bytes
+pub mod Lines
 pub mod Keywords
+pub mod Numbers
+pub mod Literals
+pub mod Comments
 pub mod Marks
+pub mod Directives
 pub mod Spelling
 pub mod Passing
 pub mod Reading
+pub mod Scanning
 pub mod WordTable

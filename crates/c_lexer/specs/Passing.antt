@@ -1,7 +1,8 @@
--- What is passed over between tokens (C11 6.4p3).
+-- What is passed over between tokens (C11 6.4p3): blanks and comments.
 
-use Rattle.std.specs.Prelude.{ℕ, ◌≡◌, ◌+◌, ◌<◌, List, length, slice_index}
+use Rattle.std.specs.Prelude.{ℕ, ◌≡◌, ◌⊎◌, ◌+◌, ◌<◌, List, length, slice_index}
 use Rattle.c_lexer.specs.Bytes.{IsBlank}
+use Rattle.c_lexer.specs.Comments.{IsBlockComment, IsLineComment}
 
 -- One blank stands between the places.
 pub record IsOneBlank (bytes : List ℕ) (from to : ℕ) : Type 0 where
@@ -9,9 +10,9 @@ pub record IsOneBlank (bytes : List ℕ) (from to : ℕ) : Type 0 where
   pub blank : IsBlank (slice_index bytes from)
   pub one : to ≡ from + 1
 
--- One thing that is passed over whole stands between the places. In this version it is a blank.
+-- One thing that is passed over whole stands between the places.
 abbrev pub IsPassed : List ℕ → ℕ → ℕ → Type 0
-IsPassed bytes from to = IsOneBlank bytes from to
+IsPassed bytes from to = IsOneBlank bytes from to ⊎ IsBlockComment bytes from to ⊎ IsLineComment bytes from to
 
 -- What stands between the places is passed over, one thing after the other.
 pub data PassesOver (bytes : List ℕ) : ℕ → ℕ → Type 0 where

@@ -1,20 +1,13 @@
 -- How a text is read: each token is the longest that stands at its place (C11 6.4p4).
 
-use Rattle.std.specs.Prelude.{ℕ, ◌≡◌, ◌+◌, ◌<◌, ◌≤◌, ◌==◌, List, [], ◌∷◌, length, take, count_by}
-use Rattle.std.specs.List.{after_last}
+use Rattle.std.specs.Prelude.{ℕ, ◌≡◌, ◌⊎◌, ◌+◌, ◌<◌, ◌≤◌, List, [], ◌∷◌, length, slice_index}
 use Rattle.c_lexer.specs.declared.token.Kind.{Kind}
 use Rattle.c_lexer.specs.declared.token.Token.{Token}
-use Rattle.c_lexer.specs.Bytes.{line_feed}
+use Rattle.c_lexer.specs.Bytes.{slash, asterisk, single_quote, double_quote}
+use Rattle.c_lexer.specs.Lines.{line_at, column_at}
+use Rattle.c_lexer.specs.Comments.{IsPair}
 use Rattle.c_lexer.specs.Spelling.{Spells}
 use Rattle.c_lexer.specs.Passing.{PassesAll}
-
--- The line of a place: one more than the line feeds before it.
-abbrev pub line_at : List ℕ → ℕ → ℕ
-line_at bytes at = count_by (λ byte. byte == line_feed) (take at bytes) + 1
-
--- The column of a place: one more than the bytes after the last line feed before it.
-abbrev pub column_at : List ℕ → ℕ → ℕ
-column_at bytes at = length (after_last (λ byte. byte == line_feed) (take at bytes)) + 1
 
 -- A token of the kind stands between the places, and no longer one begins there (6.4p4).
 pub record IsLongest (bytes : List ℕ) (from to : ℕ) (kind : Kind) : Type 0 where
@@ -51,3 +44,11 @@ pub record StopsAt (bytes : List ℕ) (at : ℕ) : Type 0 where
   pub before_end : at < length bytes
   pub tokens : List Token
   pub reads : Reads bytes 0 tokens at
+
+-- What begins at the place would end where a `*/` or a quote stands. A `'` of which the character is
+-- missing, as in `''`, is no such beginning.
+abbrev pub LeavesOpen : List ℕ → ℕ → Type 0
+LeavesOpen bytes at =
+    IsPair bytes at slash asterisk
+    ⊎ (slice_index bytes at ≡ double_quote)
+    ⊎ ((slice_index bytes at ≡ single_quote) × (slice_index bytes (at + 1) ≡ single_quote → ⊥))

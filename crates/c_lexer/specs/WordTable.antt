@@ -10,8 +10,8 @@ rows_of table = map (λ row. (row.0.now, row.1)) table
 -- The slot of a word, one of 256.
 abbrev pub slot_of : List ℕ → ℕ
 slot_of word =
-    (4 * length word + 10 * slice_index word 0 + 13 * slice_index word (length word * 2 / 3)
-    + 3 * slice_index word (length word - 1)) % 256
+    (23 * length word + 29 * slice_index word 0 + 63 * slice_index word (length word * 2 / 3)
+    + 19 * slice_index word (length word - 1)) % 256
 
 -- Whether each row's place, of which the first is `place`, stands at the slot of its word.
 abbrev pub are_placed : List (List ℕ × ℕ) → ℕ → List ℕ → Bool

@@ -9,8 +9,8 @@ pub enum LexStop {
     /// No token begins with the byte at this position.
     #[error("no token begins at byte {at}")]
     BadByte { at: u32 },
-    /// What begins at this position does not end. This version reads nothing that could be left
-    /// open, so it does not come.
+    /// The comment, the character constant or the string literal that begins at this position does
+    /// not end.
     #[error("what begins at byte {at} does not end")]
     Unclosed { at: u32 },
     /// There was no memory for the tokens.

@@ -1,14 +1,22 @@
 //! The entry: from the bytes of a file to its tokens.
 
-ghost use Rattle.std.specs.Prelude.{◌≡◌, ℕ, List, ◌<◌, ◌≤◌, length, IfOk, IsErrOf, IsOkUnless, MatchOption};
-ghost use Rattle.c_lexer.specs.Reading.{AreTokensOf, BeginsNoToken, IsLongest, StopsAt};
+ghost use Rattle.std.specs.Prelude.{◌≡◌, ℕ, List, ◌<◌, ◌≤◌, length, slice_index, IfOk, IsErrOf, IsOkUnless, MatchOption};
+ghost use Rattle.c_lexer.specs.Bytes.{IsLetter, asterisk, slash};
+ghost use Rattle.c_lexer.specs.Comments.{BeginsComment, IsPair};
+ghost use Rattle.c_lexer.specs.Passing.{IsPassed};
+ghost use Rattle.c_lexer.specs.Reading.{AreTokensOf, BeginsNoToken, IsLongest, LeavesOpen, StopsAt};
 ghost use Rattle.c_lexer.specs.declared.token.Token.{Token};
 
-use crate::byte_class::{is_blank, is_digit, is_letter};
+use crate::byte_class::{is_blank, is_letter};
+use crate::comment::{begins_comment, block_comment_end, line_comment_end};
+use crate::cursor::Cursor;
+use crate::directive::directive_at;
 use crate::error::LexStop;
 use crate::keyword::keyword_of;
-use crate::mark::mark_of;
-use crate::number::digits_end;
+use crate::literal::literal_at;
+use crate::mark::mark_at;
+use crate::number::{begins_number, number_end};
+use crate::pair::is_pair;
 use crate::token::{Kind, Token};
 use crate::word::word_end;
 use std::alloc::Global;
@@ -16,7 +24,7 @@ use std::alloc::Global;
 /// The size of the largest file that is read: 16 MiB.
 pub const MAX_FILE_BYTES: usize = 16_777_216;
 
-/// The kind and the end of the longest token at `at`, where no blank stands.
+/// The kind and the end of the longest token at `at`, where no blank and no comment stands.
 fn token_at(bytes: &[u8], at: usize) -> Option<(Kind, usize)>
     requires inside { at < length bytes.now }
     requires small { length bytes.now ≤ MAX_FILE_BYTES }
@@ -26,19 +34,74 @@ fn token_at(bytes: &[u8], at: usize) -> Option<(Kind, usize)>
 {
     let first = bytes[at];
     if is_letter(first) {
-        let end = word_end(bytes, at);
-        let kind = match keyword_of(&bytes[at..end]) {
-            Some(number) => Kind::Key(number),
-            None => Kind::Word,
-        };
-        return Some((kind, end));
+        return Some(name_at(bytes, at));
     }
-    if is_digit(first) {
-        return Some((Kind::Number, digits_end(bytes, at)));
+    if begins_number(bytes, at) {
+        return Some((Kind::Number, number_end(bytes, at)));
     }
-    match mark_of(first) {
-        Some(number) => Some((Kind::Mark(number), at + 1)),
-        None => None,
+    match first {
+        b'"' | b'\'' => literal_at(bytes, at, at),
+        b'#' => directive_at(bytes, at),
+        _ => match mark_at(bytes, at) {
+            Some((number, end)) => Some((Kind::Mark(number), end)),
+            None => None,
+        },
+    }
+}
+
+/// The kind and the end of the longest token at `at`, where a letter stands.
+fn name_at(bytes: &[u8], at: usize) -> (Kind, usize)
+    requires inside { at < length bytes.now }
+    requires small { length bytes.now ≤ MAX_FILE_BYTES }
+    requires letter { IsLetter (slice_index bytes.now at) }
+    ensures { IsLongest bytes.now at result.1 result.0 }
+{
+    let end = word_end(bytes, at);
+    if end < bytes.len()
+        && matches!(bytes[end], b'"' | b'\'')
+        && let Some(literal) = literal_at(bytes, at, end)
+    {
+        return literal;
+    }
+    let kind = match keyword_of(&bytes[at..end]) {
+        Some(number) => Kind::Key(number),
+        None => Kind::Word,
+    };
+    (kind, end)
+}
+
+/// Where the comment ends that begins at `at`, if it does.
+fn comment_end(bytes: &[u8], at: usize) -> Option<usize>
+    requires inside { at < length bytes.now }
+    requires small { length bytes.now ≤ MAX_FILE_BYTES }
+    requires begins { BeginsComment bytes.now at }
+    ensures { MatchOption result
+        (IsPair bytes.now at slash asterisk × ((to : ℕ) → IsPassed bytes.now at to → ⊥))
+        (λ to. IsPassed bytes.now at to) }
+{
+    if is_pair(bytes, at, b'/', b'*') {
+        block_comment_end(bytes, at)
+    } else {
+        Some(line_comment_end(bytes, at))
+    }
+}
+
+/// Why the reading stops at `at`, where no token begins and no comment.
+fn stop_at(bytes: &[u8], at: usize) -> LexStop
+    requires inside { at < length bytes.now }
+    requires small { length bytes.now ≤ MAX_FILE_BYTES }
+    requires no_comment { BeginsComment bytes.now at → ⊥ }
+    ensures bad_byte { (n : ℕ) → result ≡ LexStop.BadByte n →
+        (n ≡ at) × (LeavesOpen bytes.now at → ⊥) }
+    ensures unclosed { (n : ℕ) → result ≡ LexStop.Unclosed n →
+        (n ≡ at) × LeavesOpen bytes.now at }
+    ensures no_memory { result ≡ LexStop.Memory → ⊥ }
+{
+    let at_most = at as u32;
+    match bytes[at] {
+        b'"' => LexStop::Unclosed { at: at_most },
+        b'\'' if !is_pair(bytes, at, b'\'', b'\'') => LexStop::Unclosed { at: at_most },
+        _ => LexStop::BadByte { at: at_most },
     }
 }
 
@@ -51,35 +114,29 @@ pub fn lex(alloc: Global, bytes: &[u8]) -> Result<Vec<Token>, LexStop>
     ensures tokens { IfOk result (λ tokens. AreTokensOf bytes.now tokens.items) }
 
     // A refusal has its cause; want of memory alone needs none.
-    ensures bad_byte { (at : ℕ) → IsErrOf result (LexStop.BadByte at) → StopsAt bytes.now at }
+    ensures bad_byte { (at : ℕ) → IsErrOf result (LexStop.BadByte at) →
+        StopsAt bytes.now at × (LeavesOpen bytes.now at → ⊥) }
+    ensures unclosed { (at : ℕ) → IsErrOf result (LexStop.Unclosed at) →
+        StopsAt bytes.now at × LeavesOpen bytes.now at }
     ensures accepts { (tokens : List Token) → AreTokensOf bytes.now tokens →
         IsOkUnless result LexStop.Memory }
-    ensures never_unclosed { (at : ℕ) → IsErrOf result (LexStop.Unclosed at) → ⊥ }
 {
     let mut tokens = Vec::new(alloc);
-    let mut at: usize = 0;
-    let mut line: u32 = 1;
-    let mut line_start: usize = 0;
-    while at < bytes.len() {
-        let first = bytes[at];
+    let mut cursor = Cursor::new(bytes);
+    while let Some(first) = cursor.byte() {
+        let at = cursor.at();
         if is_blank(first) {
-            at += 1;
-            if first == b'\n' {
-                line += 1;
-                line_start = at;
+            cursor.step();
+        } else if begins_comment(bytes, at) {
+            match comment_end(bytes, at) {
+                Some(end) => cursor.pass_to(end),
+                None => return Err(LexStop::Unclosed { at: at as u32 }),
             }
         } else {
-            let Some((kind, end)) = token_at(bytes, at) else {
-                return Err(LexStop::BadByte { at: at as u32 });
-            };
-            tokens.push(Token {
-                kind,
-                start: at as u32,
-                end: end as u32,
-                line,
-                column: (at - line_start) as u32 + 1,
-            })?;
-            at = end;
+            match token_at(bytes, at) {
+                Some((kind, end)) => tokens.push(cursor.take(kind, end))?,
+                None => return Err(stop_at(bytes, at)),
+            }
         }
     }
     Ok(tokens)

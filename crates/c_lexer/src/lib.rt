@@ -2,12 +2,19 @@
 #![tactic(auto)]
 
 mod byte_class;
+mod comment;
+mod cursor;
+mod directive;
 mod error;
 pub mod keyword;
 pub mod laws;
 mod lexer;
+mod line;
+mod literal;
 pub mod mark;
+mod marker;
 mod number;
+mod pair;
 #[cfg(test)]
 mod tests;
 mod token;
@@ -16,4 +23,5 @@ mod word_table;
 
 pub use error::LexStop;
 pub use lexer::{MAX_FILE_BYTES, lex};
+pub use marker::{Marker, marker_of};
 pub use token::{Kind, Token};

@@ -1,10 +1,14 @@
 //! Punctuators (C11 6.4.6).
 //!
-//! A mark's number is its place in this list. This version reads those of `marks` in the
-//! definitions.
+//! A mark's number is its place in this list. A digraph has the number of what it stands for.
 
-ghost use Rattle.std.specs.Prelude.{ℕ, [], ◌∷◌, MatchOption};
-ghost use Rattle.c_lexer.specs.Marks.{IsMark};
+ghost use Rattle.std.specs.Prelude.{ℕ, ◌<◌, ◌≤◌, ◌^◌, ◌↔◌, length, slice_range, IsTrue, MatchOption};
+ghost use Rattle.c_lexer.specs.Marks.{BeginsHash, IsMark, IsMarkAt, IsSecond};
+
+use crate::comment::begins_comment;
+use crate::lexer::MAX_FILE_BYTES;
+use crate::pair::is_pair;
+use crate::word_table::look_up;
 
 pub const MARK_LEFT_BRACKET: u8 = 0;
 
@@ -97,20 +101,146 @@ pub const MARK_CARET_EQUAL: u8 = 43;
 pub const MARK_BAR_EQUAL: u8 = 44;
 
 pub const MARK_COMMA: u8 = 45;
-/// The number of a mark of one byte.
-pub(crate) fn mark_of(byte: u8) -> Option<u8>
+
+/// The marks with their numbers, and then the digraphs.
+static MARKS: [(&[u8], u8); 50] = [
+    (b"[", MARK_LEFT_BRACKET),
+    (b"]", MARK_RIGHT_BRACKET),
+    (b"(", MARK_LEFT_PAREN),
+    (b")", MARK_RIGHT_PAREN),
+    (b"{", MARK_LEFT_BRACE),
+    (b"}", MARK_RIGHT_BRACE),
+    (b".", MARK_DOT),
+    (b"->", MARK_ARROW),
+    (b"++", MARK_PLUS_PLUS),
+    (b"--", MARK_MINUS_MINUS),
+    (b"&", MARK_AMPERSAND),
+    (b"*", MARK_STAR),
+    (b"+", MARK_PLUS),
+    (b"-", MARK_MINUS),
+    (b"~", MARK_TILDE),
+    (b"!", MARK_EXCLAMATION),
+    (b"/", MARK_SLASH),
+    (b"%", MARK_PERCENT),
+    (b"<<", MARK_LEFT_SHIFT),
+    (b">>", MARK_RIGHT_SHIFT),
+    (b"<", MARK_LESS),
+    (b">", MARK_GREATER),
+    (b"<=", MARK_LESS_EQUAL),
+    (b">=", MARK_GREATER_EQUAL),
+    (b"==", MARK_EQUAL_EQUAL),
+    (b"!=", MARK_NOT_EQUAL),
+    (b"^", MARK_CARET),
+    (b"|", MARK_BAR),
+    (b"&&", MARK_AND_AND),
+    (b"||", MARK_OR_OR),
+    (b"?", MARK_QUESTION),
+    (b":", MARK_COLON),
+    (b";", MARK_SEMICOLON),
+    (b"...", MARK_ELLIPSIS),
+    (b"=", MARK_EQUAL),
+    (b"*=", MARK_STAR_EQUAL),
+    (b"/=", MARK_SLASH_EQUAL),
+    (b"%=", MARK_PERCENT_EQUAL),
+    (b"+=", MARK_PLUS_EQUAL),
+    (b"-=", MARK_MINUS_EQUAL),
+    (b"<<=", MARK_LEFT_SHIFT_EQUAL),
+    (b">>=", MARK_RIGHT_SHIFT_EQUAL),
+    (b"&=", MARK_AMPERSAND_EQUAL),
+    (b"^=", MARK_CARET_EQUAL),
+    (b"|=", MARK_BAR_EQUAL),
+    (b",", MARK_COMMA),
+    (b"<:", MARK_LEFT_BRACKET),
+    (b":>", MARK_RIGHT_BRACKET),
+    (b"<%", MARK_LEFT_BRACE),
+    (b"%>", MARK_RIGHT_BRACE),
+];
+
+/// Where a mark stands in the table, by the slot of `look_up`. The other slots hold 0.
+static PLACES: [u8; 256] = [
+    0, 0, 0, 0, 0, 0, 42, 0, 0, 6, 0, 36, 0, 0, 0, 0, 19, 0, 0, 0, 0, 0, 0, 0, 0, 0, 0, 20, 0, 0,
+    0, 0, 0, 0, 17, 7, 0, 0, 0, 0, 0, 0, 0, 45, 0, 0, 0, 0, 0, 0, 18, 0, 0, 0, 0, 33, 0, 0, 0, 49,
+    0, 31, 0, 0, 0, 0, 0, 0, 0, 0, 0, 0, 0, 0, 5, 0, 0, 11, 0, 0, 0, 0, 0, 0, 0, 0, 0, 0, 0, 0, 0,
+    0, 0, 0, 43, 0, 0, 0, 0, 0, 0, 0, 15, 0, 30, 0, 1, 0, 4, 0, 0, 2, 0, 0, 0, 0, 0, 25, 0, 0, 16,
+    0, 35, 0, 0, 0, 0, 0, 0, 0, 0, 0, 22, 0, 0, 0, 0, 0, 34, 0, 0, 0, 46, 0, 0, 10, 0, 0, 0, 0, 0,
+    38, 0, 0, 13, 40, 47, 0, 0, 0, 0, 24, 0, 0, 0, 0, 0, 0, 28, 0, 0, 0, 32, 0, 0, 0, 0, 9, 0, 0,
+    0, 0, 0, 0, 0, 14, 0, 0, 12, 0, 23, 0, 0, 0, 0, 0, 44, 0, 0, 0, 0, 0, 0, 0, 0, 0, 0, 0, 0, 39,
+    0, 8, 48, 41, 0, 0, 0, 26, 0, 27, 0, 0, 3, 0, 0, 0, 0, 0, 0, 0, 0, 0, 0, 37, 0, 0, 0, 0, 0, 0,
+    0, 0, 29, 0, 0, 0, 0, 0, 0, 21, 0, 0, 0, 0, 0, 0,
+];
+
+/// The number of a mark.
+fn mark_of(text: &[u8]) -> Option<u8>
+    requires some { 0 < length text.now }
+    requires short { length text.now < 2 ^ 32 }
     ensures { MatchOption result
-        ((number : ℕ) → IsMark (byte ∷ []) number → ⊥)
-        (IsMark (byte ∷ [])) }
+        ((number : ℕ) → IsMark text.now number → ⊥)
+        (IsMark text.now) }
 {
-    match byte {
-        b'(' => Some(MARK_LEFT_PAREN),
-        b')' => Some(MARK_RIGHT_PAREN),
-        b'{' => Some(MARK_LEFT_BRACE),
-        b'}' => Some(MARK_RIGHT_BRACE),
-        b'+' => Some(MARK_PLUS),
-        b';' => Some(MARK_SEMICOLON),
-        b'=' => Some(MARK_EQUAL),
-        _ => None,
+    look_up(&MARKS, &PLACES, text)
+}
+
+/// The number and the end of the longest mark at `at`, where neither a comment nor a `%:` begins.
+fn longest_mark(bytes: &[u8], at: usize) -> Option<(u8, usize)>
+    requires inside { at < length bytes.now }
+    requires small { length bytes.now ≤ MAX_FILE_BYTES }
+    ensures { MatchOption result
+        ((number past : ℕ) → at < past → past ≤ length bytes.now →
+        IsMark (slice_range bytes.now at past) number → ⊥)
+        (λ m. (at < m.1) × (m.1 ≤ length bytes.now)
+        × IsMark (slice_range bytes.now at m.1) m.0
+        × ((number past : ℕ) → m.1 < past → past ≤ length bytes.now →
+        IsMark (slice_range bytes.now at past) number → ⊥)) }
+{
+    let left = bytes.len() - at;
+    if left >= 2 && continues_mark(bytes[at + 1]) {
+        if left >= 3
+            && let Some(number) = mark_of(&bytes[at..at + 3])
+        {
+            return Some((number, at + 3));
+        }
+        if let Some(number) = mark_of(&bytes[at..at + 2]) {
+            return Some((number, at + 2));
+        }
     }
+    match mark_of(&bytes[at..at + 1]) {
+        Some(number) => Some((number, at + 1)),
+        None => None,
+    }
+}
+
+/// Whether a mark of two bytes or more may have this second byte.
+fn continues_mark(byte: u8) -> bool
+    ensures { IsTrue result ↔ IsSecond byte }
+{
+    matches!(
+        byte,
+        b'%' | b'&' | b'+' | b'-' | b'.' | b':' | b'<' | b'=' | b'>' | b'|'
+    )
+}
+
+/// The number and the end of the longest mark at `at`.
+pub(crate) fn mark_at(bytes: &[u8], at: usize) -> Option<(u8, usize)>
+    requires inside { at < length bytes.now }
+    requires small { length bytes.now ≤ MAX_FILE_BYTES }
+    ensures { MatchOption result
+        ((number past : ℕ) → at < past → past ≤ length bytes.now →
+        IsMarkAt bytes.now at past number → ⊥)
+        (λ m. (at < m.1) × (m.1 ≤ length bytes.now) × IsMarkAt bytes.now at m.1 m.0
+        × ((number past : ℕ) → m.1 < past → past ≤ length bytes.now →
+        IsMarkAt bytes.now at past number → ⊥)) }
+{
+    if begins_comment(bytes, at) || begins_hash(bytes, at) {
+        return None;
+    }
+    longest_mark(bytes, at)
+}
+
+/// Whether a `%:` stands at `at`.
+fn begins_hash(bytes: &[u8], at: usize) -> bool
+    requires inside { at < length bytes.now }
+    requires small { length bytes.now ≤ MAX_FILE_BYTES }
+    ensures { IsTrue result ↔ BeginsHash bytes.now at }
+{
+    is_pair(bytes, at, b'%', b':')
 }

@@ -19,7 +19,7 @@ pub fn look_up(table: &[(&[u8], u8)], places: &[u8; 256], word: &[u8]) -> Option
     let first = word[0] as usize;
     let inner = word[len * 2 / 3] as usize;
     let last = word[len - 1] as usize;
-    let slot = (4 * len + 10 * first + 13 * inner + 3 * last) % 256;
+    let slot = (23 * len + 29 * first + 63 * inner + 19 * last) % 256;
     let (spelling, number) = table[places[slot] as usize];
     if spelling == word { Some(number) } else { None }
 }
