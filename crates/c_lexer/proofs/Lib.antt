@@ -7,3 +7,4 @@ pub mod Places
 pub mod Steps
 pub mod OneReading
 pub mod SomeReading
+pub mod Literals

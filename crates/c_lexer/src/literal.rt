@@ -1,6 +1,6 @@
 //! Character constants and string literals (C11 6.4.4.4, 6.4.5).
 
-ghost use Rattle.std.specs.Prelude.{ℕ, ◌≡◌, ◌<◌, ◌≤◌, ◌⊎◌, ◌↔◌, length, slice_index, slice_range, IsTrue, MatchOption};
+ghost use Rattle.std.specs.Prelude.{ℕ, ◌≡◌, ◌+◌, ◌<◌, ◌≤◌, ◌⊎◌, ◌↔◌, length, slice_index, slice_range, IsTrue, MatchOption};
 ghost use Rattle.std.specs.List.{Contains};
 ghost use Rattle.c_lexer.specs.Bytes.{IsWordByte, double_quote, single_quote};
 ghost use Rattle.c_lexer.specs.Literals.{IsQuoted, char_prefixes, text_prefixes};

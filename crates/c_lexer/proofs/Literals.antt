@@ -1,0 +1,285 @@
+-- Where a literal ends.
+use Rattle.std.proofs.Common.{◌≡◌, ℕ, suc, zero, ◌+◌, ◌-◌, ◌<◌, ◌≤◌, ◌⊎◌, List, [], ◌∷◌, length, slice_range, slice_index, slice_index_or, refl, sym, ap, arith, inl, inr}
+use Rattle.std.specs.List.{Contains}
+use Rattle.std.proofs.lemmas.Bool.{cases_lt}
+use Rattle.std.proofs.lemmas.List.{get_or_past}
+use Rattle.c_lexer.specs.Bytes.{line_feed, backslash, single_quote, double_quote, IsLetter, IsWordByte}
+use Rattle.c_lexer.specs.Lines.{OnOneLine}
+use Rattle.c_lexer.specs.Literals.{IsPlain, AreCharacters, none, plain, escaped, IsQuoted, char_prefixes, text_prefixes, IsLiteral, IsChar, IsText}
+use Rattle.c_lexer.specs.Scanning.{IsLiteralKind}
+use Rattle.c_lexer.specs.Spelling.{Spells}
+use Rattle.c_lexer.specs.declared.token.Kind.{Kind}
+use Rattle.c_lexer.specs.declared.token.Kind.TheVariants.{Word, Key, Number, Char, Text, Mark, Line, Pragma}
+use Rattle.c_lexer.proofs.Parts.{part_length, part_at, part_first}
+
+-- ---- Characters
+
+-- characters do not end before they begin
+pub characters_forward : (bytes : List ℕ) (quote from to : ℕ) → AreCharacters bytes quote from to → from ≤ to
+characters_forward bytes quote from to none = omega arith
+characters_forward bytes quote from to (plain p h) = let r = characters_forward bytes quote (from + 1) to h in omega arith
+characters_forward bytes quote from to (escaped b f h) = let r = characters_forward bytes quote (from + 2) to h in omega arith
+
+-- characters have no line feed
+pub characters_on_one_line : (bytes : List ℕ) (quote from to : ℕ) → AreCharacters bytes quote from to → OnOneLine bytes from to
+characters_on_one_line bytes quote from to none i a b e = omega arith
+characters_on_one_line bytes quote from to (plain p h) i a b e =
+    elim (cases_lt from i) [
+      | inl l ↦ characters_on_one_line bytes quote (from + 1) to h i (omega arith) b e
+      | inr l ↦ let here : i ≡ from = omega arith in p.no_feed (rw here at e)
+    ]
+characters_on_one_line bytes quote from to (escaped s f h) i a b e =
+    elim (cases_lt (from + 1) i) [
+      | inl l ↦ characters_on_one_line bytes quote (from + 2) to h i (omega arith) b e
+      | inr l ↦ elim (cases_lt from i) [
+        | inl m ↦ let here : i ≡ from + 1 = omega arith in f (rw here at e)
+        | inr m ↦ let here : i ≡ from = omega arith in let e = rw here at e in omega arith
+      ]
+    ]
+
+-- a plain byte goes on with the characters
+pub characters_plain : (bytes : List ℕ) (quote from to : ℕ) → AreCharacters bytes quote from to → IsPlain quote (slice_index bytes to) → AreCharacters bytes quote from (to + 1)
+characters_plain bytes quote from to none p = plain p none
+characters_plain bytes quote from to (plain q h) p = plain q (characters_plain bytes quote (from + 1) to h p)
+characters_plain bytes quote from to (escaped s f h) p = escaped s f (characters_plain bytes quote (from + 2) to h p)
+
+-- so do a backslash and the byte after it
+pub characters_escaped : (bytes : List ℕ) (quote from to : ℕ) → AreCharacters bytes quote from to → slice_index bytes to ≡ backslash → (slice_index bytes (to + 1) ≡ line_feed → ⊥) → AreCharacters bytes quote from (to + 2)
+characters_escaped bytes quote from to none b n = escaped b n none
+characters_escaped bytes quote from to (plain q h) b n = plain q (characters_escaped bytes quote (from + 1) to h b n)
+characters_escaped bytes quote from to (escaped s f h) b n = escaped s f (characters_escaped bytes quote (from + 2) to h b n)
+
+-- of two runs of characters from one place one goes on with the other
+pub characters_compare : (bytes : List ℕ) (quote from p q : ℕ) → AreCharacters bytes quote from p → AreCharacters bytes quote from q → AreCharacters bytes quote p q ⊎ AreCharacters bytes quote q p
+characters_compare bytes quote from p q none k = inl k
+characters_compare bytes quote from p q (plain a h) none = inr (plain a h)
+characters_compare bytes quote from p q (plain a h) (plain b k) = characters_compare bytes quote (from + 1) p q h k
+characters_compare bytes quote from p q (plain a h) (escaped s f k) = absurd (a.no_backslash s)
+characters_compare bytes quote from p q (escaped s f h) none = inr (escaped s f h)
+characters_compare bytes quote from p q (escaped s f h) (plain b k) = absurd (b.no_backslash s)
+characters_compare bytes quote from p q (escaped s f h) (escaped t g k) = characters_compare bytes quote (from + 2) p q h k
+
+-- at the place no character begins
+pub record IsStop (bytes : List ℕ) (quote at : ℕ) : Type 0 where
+  pub no_plain : IsPlain quote (slice_index bytes at) → ⊥
+  pub no_escape : slice_index bytes at ≡ backslash → slice_index bytes (at + 1) ≡ line_feed
+
+-- the quote is such a place
+pub quote_stops : (bytes : List ℕ) (quote at : ℕ) → (quote ≡ backslash → ⊥) → slice_index bytes at ≡ quote → IsStop bytes quote at
+quote_stops bytes quote at odd e = record { no_plain = λ p. p.no_quote e; no_escape = λ b. absurd (odd (cc)) }
+
+-- and so is the end of the line
+pub feed_stops : (bytes : List ℕ) (quote at : ℕ) → slice_index bytes at ≡ line_feed → IsStop bytes quote at
+feed_stops bytes quote at e = record { no_plain = λ p. p.no_feed e; no_escape = λ b. omega arith }
+
+-- and so is a backslash at the end of the line
+pub backslash_stops : (bytes : List ℕ) (quote at : ℕ) → slice_index bytes at ≡ backslash → slice_index bytes (at + 1) ≡ line_feed → IsStop bytes quote at
+backslash_stops bytes quote at b e = record { no_plain = λ p. p.no_backslash b; no_escape = λ _. e }
+
+-- from there no characters go on
+pub characters_stop : (bytes : List ℕ) (quote from to : ℕ) → IsStop bytes quote from → AreCharacters bytes quote from to → from ≡ to
+characters_stop bytes quote from to s none = refl
+characters_stop bytes quote from to s (plain p h) = absurd (s.no_plain p)
+characters_stop bytes quote from to s (escaped b f h) = absurd (f (s.no_escape b))
+
+-- characters come to one such place
+pub characters_stop_once : (bytes : List ℕ) (quote from p q : ℕ) → AreCharacters bytes quote from p → AreCharacters bytes quote from q → IsStop bytes quote p → IsStop bytes quote q → p ≡ q
+characters_stop_once bytes quote from p q h k s t =
+    elim (characters_compare bytes quote from p q h k) [
+      | inl r ↦ characters_stop bytes quote p q s r
+      | inr r ↦ sym (characters_stop bytes quote q p t r)
+    ]
+
+-- characters come to one quote
+pub characters_once : (bytes : List ℕ) (quote from p q : ℕ) → (quote ≡ backslash → ⊥) → AreCharacters bytes quote from p → AreCharacters bytes quote from q → slice_index bytes p ≡ quote → slice_index bytes q ≡ quote → p ≡ q
+characters_once bytes quote from p q odd h k s t =
+    characters_stop_once bytes quote from p q h k (quote_stops bytes quote p odd s) (quote_stops bytes quote q odd t)
+
+-- the quotes at a place are closed at one place
+pub quoted_once : (bytes : List ℕ) (quote opening p q : ℕ) → (quote ≡ backslash → ⊥) → IsQuoted bytes quote opening p → IsQuoted bytes quote opening q → p ≡ q
+quoted_once bytes quote opening p q odd h k =
+    characters_once bytes quote (opening + 1) p q odd h.characters k.characters h.closes k.closes
+
+-- the closing quote stands behind all characters after the opening one
+pub closing_behind : (bytes : List ℕ) (quote opening closing at : ℕ) → (quote ≡ backslash → ⊥) → IsQuoted bytes quote opening closing → AreCharacters bytes quote (opening + 1) at → at ≤ closing
+closing_behind bytes quote opening closing at odd q h =
+    elim (characters_compare bytes quote (opening + 1) at closing h q.characters) [
+      | inl r ↦ characters_forward bytes quote at closing r
+      | inr r ↦ let same = characters_stop bytes quote closing at (quote_stops bytes quote closing odd q.closes) r in omega arith
+    ]
+
+-- no quote closes where the characters stop at another byte
+pub never_closed : (bytes : List ℕ) (quote opening closing at : ℕ) → (quote ≡ backslash → ⊥) → AreCharacters bytes quote (opening + 1) at → IsStop bytes quote at → (slice_index bytes at ≡ quote → ⊥) → IsQuoted bytes quote opening closing → ⊥
+never_closed bytes quote opening closing at odd h s other q =
+    let same = characters_stop_once bytes quote (opening + 1) at closing h q.characters s (quote_stops bytes quote closing odd q.closes) in
+    other (rw same q.closes)
+
+-- ---- Prefixes
+
+-- `L`, `u` and `U` stand before both kinds of quotes
+pub one_byte_prefix : (text : List ℕ) → length text ≡ 1 → (slice_index text 0 ≡ 76) ⊎ (slice_index text 0 ≡ 117) ⊎ (slice_index text 0 ≡ 85) → Contains char_prefixes text × Contains text_prefixes text
+one_byte_prefix [] l w = absurd (omega arith)
+one_byte_prefix (byte ∷ []) l (inl e) = let same = ap (λ (b : ℕ). b ∷ []) (sym e) in ((1, omega arith, same), (4, omega arith, same))
+one_byte_prefix (byte ∷ []) l (inr (inl e)) = let same = ap (λ (b : ℕ). b ∷ []) (sym e) in ((2, omega arith, same), (2, omega arith, same))
+one_byte_prefix (byte ∷ []) l (inr (inr e)) = let same = ap (λ (b : ℕ). b ∷ []) (sym e) in ((3, omega arith, same), (3, omega arith, same))
+one_byte_prefix (byte ∷ (next ∷ rest)) l w = absurd (omega arith)
+
+-- what a prefix looks like
+pub record IsPrefix (text : List ℕ) : Type 0 where
+  pub short : length text ≤ 2
+  pub first : 0 < length text → IsLetter (slice_index text 0)
+  pub each : (i : ℕ) → i < length text → IsWordByte (slice_index text i)
+
+no_prefix : IsPrefix []
+no_prefix = record { short = omega arith; first = λ l. absurd (omega arith); each = λ i l. absurd (omega arith) }
+
+letter_prefix : (byte : ℕ) → IsLetter byte → IsPrefix (byte ∷ [])
+letter_prefix byte h = record { short = omega arith; first = λ _. h; each = λ i l. let first : i ≡ 0 = omega arith in rw first (inl h) }
+
+u8_each : (i : ℕ) → i < 2 → IsWordByte (slice_index (117 ∷ 56 ∷ []) i)
+u8_each zero l = grind arith
+u8_each (suc zero) l = grind arith
+u8_each (suc (suc i)) l = absurd (omega arith)
+
+u8_prefix : IsPrefix (117 ∷ 56 ∷ [])
+u8_prefix = record { short = omega arith; first = λ _. grind arith; each = u8_each }
+
+text_prefix_at : (text : List ℕ) (k : ℕ) → k < 5 → slice_index_or text_prefixes k text ≡ text → IsPrefix text
+text_prefix_at text zero l e = rw (← e) no_prefix
+text_prefix_at text (suc zero) l e = rw (← e) u8_prefix
+text_prefix_at text (suc (suc zero)) l e = rw (← e) (letter_prefix 117 (grind arith))
+text_prefix_at text (suc (suc (suc zero))) l e = rw (← e) (letter_prefix 85 (grind arith))
+text_prefix_at text (suc (suc (suc (suc zero)))) l e = rw (← e) (letter_prefix 76 (grind arith))
+text_prefix_at text (suc (suc (suc (suc (suc k))))) l e = absurd (omega arith)
+
+char_prefix_at : (text : List ℕ) (k : ℕ) → k < 4 → slice_index_or char_prefixes k text ≡ text → IsPrefix text
+char_prefix_at text zero l e = rw (← e) no_prefix
+char_prefix_at text (suc zero) l e = rw (← e) (letter_prefix 76 (grind arith))
+char_prefix_at text (suc (suc zero)) l e = rw (← e) (letter_prefix 117 (grind arith))
+char_prefix_at text (suc (suc (suc zero))) l e = rw (← e) (letter_prefix 85 (grind arith))
+char_prefix_at text (suc (suc (suc (suc k)))) l e = absurd (omega arith)
+
+-- ---- Literals
+
+-- the quote of a literal, and what its prefixes look like
+pub record IsForm (prefixes : List (List ℕ)) (quote : ℕ) : Type 0 where
+  pub prefix : (text : List ℕ) → Contains prefixes text → IsPrefix text
+  pub quote_is : (quote ≡ single_quote) ⊎ (quote ≡ double_quote)
+
+pub char_form : IsForm char_prefixes single_quote
+char_form = record { prefix = λ text h. char_prefix_at text h.0 h.1 h.2; quote_is = inl refl }
+
+pub text_form : IsForm text_prefixes double_quote
+text_form = record { prefix = λ text h. text_prefix_at text h.0 h.1 h.2; quote_is = inr refl }
+
+-- no quote is a backslash
+pub quote_no_backslash : (quote : ℕ) → (quote ≡ single_quote) ⊎ (quote ≡ double_quote) → quote ≡ backslash → ⊥
+quote_no_backslash quote h e = grind arith
+
+-- or a line feed
+pub quote_no_feed : (quote : ℕ) → (quote ≡ single_quote) ⊎ (quote ≡ double_quote) → quote ≡ line_feed → ⊥
+quote_no_feed quote h e = grind arith
+
+-- or stands in a word
+pub quote_no_word_byte : (byte : ℕ) → (byte ≡ single_quote) ⊎ (byte ≡ double_quote) → IsWordByte byte → ⊥
+quote_no_word_byte byte h w = grind arith
+
+word_byte_no_feed : (byte : ℕ) → IsWordByte byte → byte ≡ line_feed → ⊥
+word_byte_no_feed byte w e = grind arith
+
+-- a quote stands within the text
+pub quote_inside : (bytes : List ℕ) (at : ℕ) → (slice_index bytes at ≡ single_quote) ⊎ (slice_index bytes at ≡ double_quote) → at < length bytes
+quote_inside bytes at h =
+    elim (cases_lt at (length bytes)) [
+      | inl l ↦ l
+      | inr l ↦ let past = get_or_past bytes at 0 l in absurd (grind arith)
+    ]
+
+-- what stands before the quotes of a literal: at most two bytes of a word
+pub record IsPrefixed (bytes : List ℕ) (from opening : ℕ) : Type 0 where
+  pub inside : opening < length bytes
+  pub forward : from ≤ opening
+  pub short : opening ≤ from + 2
+  pub first : from < opening → IsLetter (slice_index bytes from)
+  pub each : (i : ℕ) → from ≤ i → i < opening → IsWordByte (slice_index bytes i)
+
+prefixed : (bytes : List ℕ) (from opening : ℕ) → from ≤ opening → opening < length bytes → IsPrefix (slice_range bytes from opening) → IsPrefixed bytes from opening
+prefixed bytes from opening h l p =
+    let long = part_length bytes from opening (omega arith) in
+    record {
+      inside = l;
+      forward = h;
+      short = omega (arith, p.short);
+      first = λ a. rw (part_first bytes from opening a) at (p.first (omega arith));
+      each = λ i a b.
+          let there : from + (i - from) < opening = omega arith in
+          let same : from + (i - from) ≡ i = omega arith in
+          rw (part_at bytes from opening (i - from) there, same) at (p.each (i - from) (omega arith));
+    }
+
+-- the quote that opens a literal is the quote
+pub literal_opens : (prefixes : List (List ℕ)) (quote : ℕ) (bytes : List ℕ) (from to : ℕ) → IsForm prefixes quote → (l : IsLiteral prefixes quote bytes from to) → (slice_index bytes l.opening ≡ single_quote) ⊎ (slice_index bytes l.opening ≡ double_quote)
+literal_opens prefixes quote bytes from to f l = rw l.quoted.opens f.quote_is
+
+-- before the quotes of a literal stands a prefix
+pub literal_before : (prefixes : List (List ℕ)) (quote : ℕ) (bytes : List ℕ) (from to : ℕ) → IsForm prefixes quote → (l : IsLiteral prefixes quote bytes from to) → IsPrefixed bytes from l.opening
+literal_before prefixes quote bytes from to f l =
+    prefixed bytes from l.opening l.forward
+    (quote_inside bytes l.opening (literal_opens prefixes quote bytes from to f l))
+    (f.prefix (slice_range bytes from l.opening) l.prefix)
+
+-- what stands before and at the end of a literal
+pub record IsClosed (bytes : List ℕ) (quote from to : ℕ) : Type 0 where
+  pub some : from + 1 < to
+  pub last : slice_index bytes (to - 1) ≡ quote
+
+-- a literal has two quotes, and ends with one
+pub literal_last : (prefixes : List (List ℕ)) (quote : ℕ) (bytes : List ℕ) (from to : ℕ) → IsLiteral prefixes quote bytes from to → IsClosed bytes quote from to
+literal_last prefixes quote bytes from to l =
+    let behind = characters_forward bytes quote (l.opening + 1) l.closing l.quoted.characters in
+    let same : to - 1 ≡ l.closing = let e = l.end in omega arith in
+    record { some = let e = l.end in let h = l.forward in omega arith; last = rw same l.quoted.closes }
+
+-- a literal has no line feed
+pub literal_on_one_line : (prefixes : List (List ℕ)) (quote : ℕ) (bytes : List ℕ) (from to : ℕ) → IsForm prefixes quote → IsLiteral prefixes quote bytes from to → OnOneLine bytes from to
+literal_on_one_line prefixes quote bytes from to f l i a b e =
+    let no_feed = quote_no_feed quote f.quote_is in
+    let end = l.end in
+    elim (cases_lt i l.opening) [
+      | inl before ↦ word_byte_no_feed _ ((literal_before prefixes quote bytes from to f l).each i a before) e
+      | inr h ↦ elim (cases_lt l.opening i) [
+        | inr k ↦ let here : i ≡ l.opening = omega arith in let opens = l.quoted.opens in no_feed (cc)
+        | inl k ↦ elim (cases_lt i l.closing) [
+          | inl m ↦ characters_on_one_line bytes quote (l.opening + 1) l.closing l.quoted.characters i (omega arith) m e
+          | inr m ↦ let here : i ≡ l.closing = omega arith in let closes = l.quoted.closes in no_feed (cc)
+        ]
+      ]
+    ]
+
+-- the quotes of a literal open behind its word bytes
+pub literal_opening_once : (prefixes : List (List ℕ)) (quote : ℕ) (bytes : List ℕ) (from to n : ℕ) → from ≤ n → ((i : ℕ) → from ≤ i → i < n → IsWordByte (slice_index bytes i)) → (slice_index bytes n ≡ single_quote) ⊎ (slice_index bytes n ≡ double_quote) → IsForm prefixes quote → (l : IsLiteral prefixes quote bytes from to) → l.opening ≡ n
+literal_opening_once prefixes quote bytes from to n h each q f l =
+    elim (cases_lt l.opening n) [
+      | inl a ↦ absurd (quote_no_word_byte _ (literal_opens prefixes quote bytes from to f l) (each l.opening l.forward a))
+      | inr a ↦ elim (cases_lt n l.opening) [
+        | inl b ↦ absurd (quote_no_word_byte _ q ((literal_before prefixes quote bytes from to f l).each n h b))
+        | inr b ↦ omega arith
+      ]
+    ]
+
+-- a token of such a kind is spelled as a character constant or a string literal
+pub spelled_literal : (bytes : List ℕ) (from to : ℕ) (kind : Kind) → IsLiteralKind kind → Spells bytes from to kind → IsChar bytes from to ⊎ IsText bytes from to
+spelled_literal bytes from to Word (inl e) s = absurd (cc)
+spelled_literal bytes from to Word (inr e) s = absurd (cc)
+spelled_literal bytes from to (Key k) (inl e) s = absurd (cc)
+spelled_literal bytes from to (Key k) (inr e) s = absurd (cc)
+spelled_literal bytes from to Number (inl e) s = absurd (cc)
+spelled_literal bytes from to Number (inr e) s = absurd (cc)
+spelled_literal bytes from to Char e s = inl s
+spelled_literal bytes from to Text e s = inr s
+spelled_literal bytes from to (Mark k) (inl e) s = absurd (cc)
+spelled_literal bytes from to (Mark k) (inr e) s = absurd (cc)
+spelled_literal bytes from to Line (inl e) s = absurd (cc)
+spelled_literal bytes from to Line (inr e) s = absurd (cc)
+spelled_literal bytes from to Pragma (inl e) s = absurd (cc)
+spelled_literal bytes from to Pragma (inr e) s = absurd (cc)
