@@ -6,7 +6,7 @@ use Rattle.std.proofs.lemmas.List.{get_or_past}
 use Rattle.c_lexer.specs.Bytes.{line_feed, backslash, single_quote, double_quote, IsLetter, IsWordByte}
 use Rattle.c_lexer.specs.Lines.{OnOneLine}
 use Rattle.c_lexer.specs.Literals.{IsPlain, AreCharacters, none, plain, escaped, IsQuoted, char_prefixes, text_prefixes, IsLiteral, IsChar, IsText}
-use Rattle.c_lexer.specs.Scanning.{IsLiteralKind}
+use Rattle.c_lexer.specs.Scanning.{IsLiteralKind, IsLastLiteral}
 use Rattle.c_lexer.specs.Spelling.{Spells}
 use Rattle.c_lexer.specs.declared.token.Kind.{Kind}
 use Rattle.c_lexer.specs.declared.token.Kind.TheVariants.{Word, Key, Number, Char, Text, Mark, Line, Pragma}
@@ -283,3 +283,88 @@ spelled_literal bytes from to Line (inl e) s = absurd (cc)
 spelled_literal bytes from to Line (inr e) s = absurd (cc)
 spelled_literal bytes from to Pragma (inl e) s = absurd (cc)
 spelled_literal bytes from to Pragma (inr e) s = absurd (cc)
+
+-- word bytes stand from the place to a quote
+pub record Opens (bytes : List ℕ) (from opening : ℕ) : Type 0 where
+  pub forward : from ≤ opening
+  pub before : (i : ℕ) → from ≤ i → i < opening → IsWordByte (slice_index bytes i)
+  pub quote : (slice_index bytes opening ≡ single_quote) ⊎ (slice_index bytes opening ≡ double_quote)
+
+pub opens_at : (bytes : List ℕ) (from opening : ℕ) → from ≤ opening → ((i : ℕ) → from ≤ i → i < opening → IsWordByte (slice_index bytes i)) → (slice_index bytes opening ≡ single_quote) ⊎ (slice_index bytes opening ≡ double_quote) → Opens bytes from opening
+opens_at bytes from opening h b q = record { forward = h; before = b; quote = q }
+
+-- of two quotes the one that is not `"` is `'`
+pub other_quote : (byte : ℕ) → (byte ≡ single_quote) ⊎ (byte ≡ double_quote) → (byte ≡ double_quote → ⊥) → byte ≡ single_quote
+other_quote byte (inl e) other = e
+other_quote byte (inr e) other = absurd (other e)
+
+-- the quote is the byte that opens
+pub quoted_by_first : (bytes : List ℕ) (quote opening closing : ℕ) → IsQuoted bytes quote opening closing → IsQuoted bytes (slice_index bytes opening) opening closing
+quoted_by_first bytes quote opening closing q = rw q.opens q
+
+-- a literal of which it is known where its quotes open
+pub record IsOpenedAt (prefixes : List (List ℕ)) (quote : ℕ) (bytes : List ℕ) (from opening to : ℕ) : Type 0 where
+  pub prefix : Contains prefixes (slice_range bytes from opening)
+  pub closing : ℕ
+  pub quoted : IsQuoted bytes quote opening closing
+  pub end : to ≡ closing + 1
+
+literal_opened : (prefixes : List (List ℕ)) (quote : ℕ) (bytes : List ℕ) (from to opening : ℕ) → (l : IsLiteral prefixes quote bytes from to) → l.opening ≡ opening → IsOpenedAt prefixes quote bytes from opening to
+literal_opened prefixes quote bytes from to opening l e = record { prefix = rw e at l.prefix; closing = l.closing; quoted = rw e at l.quoted; end = l.end }
+
+-- where a `"` opens the quotes only a string literal stands
+pub text_opened : (bytes : List ℕ) (from opening to : ℕ) (kind : Kind) → Opens bytes from opening → slice_index bytes opening ≡ double_quote → IsLiteralKind kind → Spells bytes from to kind → IsOpenedAt text_prefixes double_quote bytes from opening to
+text_opened bytes from opening to kind o q k s =
+    elim (spelled_literal bytes from to kind k s) [
+      | inl char ↦
+          let e = literal_opening_once char_prefixes single_quote bytes from to opening o.forward o.before o.quote char_form char.literal in
+          let other = rw e at char.literal.quoted.opens in
+          absurd (omega arith)
+      | inr text ↦
+          literal_opened text_prefixes double_quote bytes from to opening text
+          (literal_opening_once text_prefixes double_quote bytes from to opening o.forward o.before o.quote text_form text)
+    ]
+
+-- where a `'` opens them only a character constant stands, with a character
+pub char_opened : (bytes : List ℕ) (from opening to : ℕ) (kind : Kind) → Opens bytes from opening → slice_index bytes opening ≡ single_quote → IsLiteralKind kind → Spells bytes from to kind → IsOpenedAt char_prefixes single_quote bytes from opening to × (opening + 2 < to)
+char_opened bytes from opening to kind o q k s =
+    elim (spelled_literal bytes from to kind k s) [
+      | inl char ↦
+          let e = literal_opening_once char_prefixes single_quote bytes from to opening o.forward o.before o.quote char_form char.literal in
+          let end = char.literal.end in
+          let some = char.some in
+          (literal_opened char_prefixes single_quote bytes from to opening char.literal e, omega arith)
+      | inr text ↦
+          let e = literal_opening_once text_prefixes double_quote bytes from to opening o.forward o.before o.quote text_form text in
+          let other = rw e at text.quoted.opens in
+          absurd (omega arith)
+    ]
+
+-- such a string literal is the only one there
+pub text_last : (bytes : List ℕ) (from opening closing : ℕ) → Opens bytes from opening → slice_index bytes opening ≡ double_quote → Contains text_prefixes (slice_range bytes from opening) → closing < length bytes → IsQuoted bytes double_quote opening closing → IsLastLiteral bytes from (closing + 1) Text
+text_last bytes from opening closing o q p l h = record {
+  is = inr refl;
+  within = omega arith;
+  spelled = record { opening = opening; closing = closing; forward = o.forward; prefix = p; quoted = h; end = refl };
+  only = λ other past w k s.
+      let found = text_opened bytes from opening past other o q k s in
+      let same = quoted_once bytes double_quote opening closing found.closing (λ e. omega arith) h found.quoted in
+      let end = found.end in
+      omega arith;
+}
+
+-- and so is such a character constant
+pub char_last : (bytes : List ℕ) (from opening closing : ℕ) → Opens bytes from opening → slice_index bytes opening ≡ single_quote → Contains char_prefixes (slice_range bytes from opening) → closing < length bytes → opening + 1 < closing → IsQuoted bytes single_quote opening closing → IsLastLiteral bytes from (closing + 1) Char
+char_last bytes from opening closing o q p l some h = record {
+  is = inl refl;
+  within = omega arith;
+  spelled = record {
+    literal = record { opening = opening; closing = closing; forward = o.forward; prefix = p; quoted = h; end = refl };
+    some = some;
+  };
+  only = λ other past w k s.
+      let found = (char_opened bytes from opening past other o q k s).0 in
+      let same = quoted_once bytes single_quote opening closing found.closing (λ e. omega arith) h found.quoted in
+      let end = found.end in
+      omega arith;
+}
