@@ -8,3 +8,4 @@ pub mod Steps
 pub mod OneReading
 pub mod SomeReading
 pub mod Literals
+pub mod LiteralTests

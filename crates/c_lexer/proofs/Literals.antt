@@ -1,4 +1,4 @@
--- Where a literal ends.
+-- Literals: where their quotes open, and where they are closed.
 use Rattle.std.proofs.Common.{◌≡◌, ℕ, suc, zero, ◌+◌, ◌-◌, ◌<◌, ◌≤◌, ◌⊎◌, List, [], ◌∷◌, length, slice_range, slice_index, slice_index_or, refl, sym, ap, arith, inl, inr}
 use Rattle.std.specs.List.{Contains}
 use Rattle.std.proofs.lemmas.Bool.{cases_lt}
@@ -228,7 +228,7 @@ literal_before prefixes quote bytes from to f l =
     (quote_inside bytes l.opening (literal_opens prefixes quote bytes from to f l))
     (f.prefix (slice_range bytes from l.opening) l.prefix)
 
--- what stands before and at the end of a literal
+-- a quote ends it, and is not its first byte
 pub record IsClosed (bytes : List ℕ) (quote from to : ℕ) : Type 0 where
   pub some : from + 1 < to
   pub last : slice_index bytes (to - 1) ≡ quote
@@ -290,6 +290,7 @@ pub record Opens (bytes : List ℕ) (from opening : ℕ) : Type 0 where
   pub before : (i : ℕ) → from ≤ i → i < opening → IsWordByte (slice_index bytes i)
   pub quote : (slice_index bytes opening ≡ single_quote) ⊎ (slice_index bytes opening ≡ double_quote)
 
+-- such word bytes, from the three facts
 pub opens_at : (bytes : List ℕ) (from opening : ℕ) → from ≤ opening → ((i : ℕ) → from ≤ i → i < opening → IsWordByte (slice_index bytes i)) → (slice_index bytes opening ≡ single_quote) ⊎ (slice_index bytes opening ≡ double_quote) → Opens bytes from opening
 opens_at bytes from opening h b q = record { forward = h; before = b; quote = q }
 
@@ -302,14 +303,15 @@ other_quote byte (inr e) other = absurd (other e)
 pub quoted_by_first : (bytes : List ℕ) (quote opening closing : ℕ) → IsQuoted bytes quote opening closing → IsQuoted bytes (slice_index bytes opening) opening closing
 quoted_by_first bytes quote opening closing q = rw q.opens q
 
--- a literal of which it is known where its quotes open
+-- a prefix, and quotes that open at the place, with characters between them
 pub record IsOpenedAt (prefixes : List (List ℕ)) (quote : ℕ) (bytes : List ℕ) (from opening to : ℕ) : Type 0 where
   pub prefix : Contains prefixes (slice_range bytes from opening)
   pub closing : ℕ
   pub quoted : IsQuoted bytes quote opening closing
   pub end : to ≡ closing + 1
 
-literal_opened : (prefixes : List (List ℕ)) (quote : ℕ) (bytes : List ℕ) (from to opening : ℕ) → (l : IsLiteral prefixes quote bytes from to) → l.opening ≡ opening → IsOpenedAt prefixes quote bytes from opening to
+-- a literal whose quotes are known to open at the place
+pub literal_opened : (prefixes : List (List ℕ)) (quote : ℕ) (bytes : List ℕ) (from to opening : ℕ) → (l : IsLiteral prefixes quote bytes from to) → l.opening ≡ opening → IsOpenedAt prefixes quote bytes from opening to
 literal_opened prefixes quote bytes from to opening l e = record { prefix = rw e at l.prefix; closing = l.closing; quoted = rw e at l.quoted; end = l.end }
 
 -- where a `"` opens the quotes only a string literal stands

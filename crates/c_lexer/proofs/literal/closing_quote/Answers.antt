@@ -1,7 +1,7 @@
-use Rattle.std.proofs.Common.{ℕ, ◌≡◌, ◌<◌, ◌+◌, length, slice_index, arith}
+use Rattle.std.proofs.Common.{◌≡◌, ◌+◌, slice_index, arith}
 use Rattle.std.proofs.lemmas.List.{get_or_past}
 use Rattle.c_lexer.specs.Bytes.{backslash, line_feed}
-use Rattle.c_lexer.specs.Literals.{IsPlain, AreCharacters, none}
+use Rattle.c_lexer.specs.Literals.{IsPlain, none}
 use Rattle.c_lexer.proofs.Literals.{characters_plain, characters_escaped, closing_behind, never_closed, feed_stops, backslash_stops}
 use Rattle.c_lexer.proofs.literal.closing_quote.Goals as goal
 use Rattle.c_lexer.proofs.literal.closing_quote.Goals.{then-byte-eq92+else-at-bytes, else-at-bytes-via-then-at-bytes+else-bytes-at-eq10, else-at-bytes-via-else-at-bytes, else-byte-eq92}
