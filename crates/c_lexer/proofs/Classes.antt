@@ -5,8 +5,8 @@ use Rattle.std.proofs.lemmas.Bool.{and_parts, ltb-true}
 use Rattle.std.proofs.lemmas.Bool.Decides.{nat_tests}
 use Rattle.std.proofs.lemmas.List.{get_or_default}
 use Rattle.std.proofs.lemmas.List.Sums.{AllPass-from_list_all, list_all-from_AllPass}
-use Rattle.c_lexer.specs.Bytes.{IsLetter, IsDigit, IsWordByte}
-use Rattle.c_lexer.specs.Spelling.{IsName, IsDigits}
+use Rattle.c_lexer.specs.Bytes.{IsLetter, IsWordByte}
+use Rattle.c_lexer.specs.Spelling.{IsName}
 
 abbrev pub is_letter : ℕ → Bool
 is_letter byte = (nat_le 97 byte && nat_le byte 122) || (nat_le 65 byte && nat_le byte 90) || (byte == 95)
@@ -22,12 +22,6 @@ letter_is byte h = grind (arith, nat_tests)
 
 is_letter_of : (byte : ℕ) → IsLetter byte → is_letter byte ≡ true
 is_letter_of byte h = grind (arith, nat_tests)
-
-digit_is : (byte : ℕ) → is_digit byte ≡ true → IsDigit byte
-digit_is byte h = grind (arith, nat_tests)
-
-is_digit_of : (byte : ℕ) → IsDigit byte → is_digit byte ≡ true
-is_digit_of byte h = grind (arith, nat_tests)
 
 word_byte_is : (byte : ℕ) → is_word_byte byte ≡ true → IsWordByte byte
 word_byte_is byte h = grind (arith, nat_tests)
@@ -53,17 +47,3 @@ is_name_of text n =
     let some : nat_lt 0 (length text) ≡ true = let s = n.some in grind (arith, nat_tests) in
     let all = list_all-from_AllPass is_word_byte text (λ i d l. is_word_byte_of (get_or text i d) (rw (get_or_default text i d 0 l) (n.each i l))) in
     rw (some, is_letter_of (slice_index text 0) n.first, all) refl
-
-abbrev pub is_digits : List ℕ → Bool
-is_digits text = nat_lt 0 (length text) && list_all is_digit text
-
-pub digits_are : (text : List ℕ) → is_digits text ≡ true → IsDigits text
-digits_are text h =
-    let p = and_parts (nat_lt 0 (length text)) (list_all is_digit text) h in
-    record { some = ltb-true _ _ p.0; each = λ i l. digit_is _ (AllPass-from_list_all is_digit text p.1 i 0 l) }
-
-pub is_digits_of : (text : List ℕ) → IsDigits text → is_digits text ≡ true
-is_digits_of text n =
-    let some : nat_lt 0 (length text) ≡ true = let s = n.some in grind (arith, nat_tests) in
-    let all = list_all-from_AllPass is_digit text (λ i d l. is_digit_of (get_or text i d) (rw (get_or_default text i d 0 l) (n.each i l))) in
-    rw (some, all) refl

@@ -1,7 +1,9 @@
 pub mod Rows
 pub mod Parts
 pub mod Classes
+pub mod Numbers
 pub mod Tables
+pub mod Marks
 pub mod Longest
 pub mod Places
 pub mod Steps
