@@ -7,3 +7,5 @@ pub mod Places
 pub mod Steps
 pub mod OneReading
 pub mod SomeReading
+pub mod Lines
+pub mod Directives
