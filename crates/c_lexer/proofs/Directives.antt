@@ -1,14 +1,18 @@
 -- Line markers and pragmas.
-use Rattle.std.proofs.Common.{◌≡◌, ℕ, ◌+◌, ◌-◌, ◌<◌, ◌≤◌, ◌⊎◌, List, Option, Some, None, codes, length, slice_index, slice_range, refl, ap, sym, ◌∙◌, arith, inl, inr, subst, ◌==◌, not}
+use Rattle.std.proofs.Common.{◌≡◌, ℕ, ◌+◌, ◌-◌, ◌<◌, ◌≤◌, List, Option, Some, None, codes, length, slice_index, slice_range, refl, ap, sym, ◌∙◌, arith, inl, inr, subst, ◌==◌, not}
 use Rattle.std.proofs.lemmas.Bool.{cases_lt, cases_order}
 use Rattle.std.proofs.lemmas.List.Sums.{AllPass-from_list_all}
-use Rattle.c_lexer.specs.Bytes.{line_feed, double_quote, number_sign, backslash, IsDigit, IsLineBlank}
+use Rattle.c_lexer.specs.Bytes.{line_feed, double_quote, IsDigit, IsLineBlank}
 use Rattle.c_lexer.specs.Lines.{AreLineBlanks, EndsLine, OnOneLine}
 use Rattle.c_lexer.specs.Literals.{IsQuoted}
 use Rattle.c_lexer.specs.Directives.{IsGap, IsLineNumber, IsFileName, IsFilePart, AreFlags, none, flag, IsMarkerOf, IsPragma, digits_value}
+use Rattle.c_lexer.specs.Scanning.{BeginsFlag, EndsGap, IsMarkerRest, IsLastFile, IsDirectiveKind, IsLastDirective}
+use Rattle.c_lexer.specs.Spelling.{Spells}
+use Rattle.c_lexer.specs.declared.token.Kind.{Kind}
+use Rattle.c_lexer.specs.declared.token.Kind.TheVariants.{Line, Pragma}
 use Rattle.c_lexer.proofs.Parts.{part_at, part_first}
 use Rattle.c_lexer.proofs.Literals.{quoted_once, characters_forward, characters_on_one_line}
-use Rattle.c_lexer.proofs.Lines.{inside, line_end, one_end, blanks_once, blanks_on_one_line}
+use Rattle.c_lexer.proofs.Lines.{inside, line_end, one_end, no_blank_past, blanks_once, blanks_on_one_line}
 
 -- gaps from one place, each before a byte that is no blank, end at one place
 pub gap_once : (bytes : List ℕ) (from p q : ℕ) → IsGap bytes from p → IsGap bytes from q → (IsLineBlank (slice_index bytes p) → ⊥) → (IsLineBlank (slice_index bytes q) → ⊥) → p ≡ q
@@ -57,14 +61,17 @@ number_once bytes from p q l m a b f g =
     ] in
     (same, sym a.value ∙ (ap (λ past. digits_value 0 (slice_range bytes from past)) same ∙ b.value))
 
--- where a file's name begins, no flag and no end of a line does
-no_flag_at_name : (bytes : List ℕ) (from past : ℕ) (name : List ℕ) {to : ℕ} → IsFileName bytes from past name → AreFlags bytes from to → EndsLine bytes to → ⊥
-no_flag_at_name bytes from past name n none e = no_gap_at_end bytes from n.opening e n.gap
-no_flag_at_name bytes from past name n (flag {digit = digit} g l h r) e =
-    let quote = n.quoted.opens in
-    let same : digit ≡ n.opening = gap_once bytes from digit n.opening g n.gap (λ b. grind arith) (λ b. grind arith) in
+-- where a quote stands behind a gap, no flag stands there and no end of a line
+no_flag_at_quote : (bytes : List ℕ) (from opening : ℕ) {to : ℕ} → IsGap bytes from opening → slice_index bytes opening ≡ double_quote → AreFlags bytes from to → EndsLine bytes to → ⊥
+no_flag_at_quote bytes from opening gap quote none e = no_gap_at_end bytes from opening e gap
+no_flag_at_quote bytes from opening gap quote (flag {digit = digit} g l h r) e =
+    let same : digit ≡ opening = gap_once bytes from digit opening g gap (λ b. grind arith) (λ b. grind arith) in
     let byte : slice_index bytes digit ≡ double_quote = rw same quote in
     omega arith
+
+-- nor where the name of a file stands
+no_flag_at_name : (bytes : List ℕ) (from past : ℕ) (name : List ℕ) {to : ℕ} → IsFileName bytes from past name → AreFlags bytes from to → EndsLine bytes to → ⊥
+no_flag_at_name bytes from past name n flagged e = no_flag_at_quote bytes from n.opening n.gap n.quoted.opens flagged e
 
 -- names from one place are one
 name_once : (bytes : List ℕ) (from p q : ℕ) (name other : List ℕ) → IsFileName bytes from p name → IsFileName bytes from q other → (p ≡ q) × (name ≡ other)
@@ -107,7 +114,7 @@ marker_once bytes from p q l m f g a b =
     let to = flags_once bytes (subst (λ at. AreFlags bytes at p) file.0 a.flagged) b.flagged a.ends_line b.ends_line in
     (to, line.1, file.1)
 
--- the word of a pragma begins with no blank and no digit
+-- the word of a pragma begins with `p`, which is no blank and no digit
 letter_at_word : (bytes : List ℕ) (word : ℕ) → slice_range bytes word (word + 6) ≡ codes "pragma" → slice_index bytes word ≡ 112
 letter_at_word bytes word h =
     sym (part_first bytes word (word + 6) (omega arith)) ∙ ap (λ text. slice_index text 0) h
@@ -130,23 +137,24 @@ marker_no_pragma bytes from p q line file a b =
     let same : slice_index bytes a.number ≡ 112 = rw word y in
     omega arith
 
--- parts that follow each other on one line
+-- two parts that follow each other stand on one line where each does
 pub join_one_line : (bytes : List ℕ) (from at to : ℕ) → OnOneLine bytes from at → OnOneLine bytes at to → OnOneLine bytes from to
 join_one_line bytes from at to a b i l h = elim (cases_lt i at) [ inl m ↦ a i l m | inr m ↦ b i m h ]
 
--- one byte that is no line feed
+-- one byte that is no line feed stands on one line
 byte_on_one_line : (bytes : List ℕ) (at : ℕ) → (slice_index bytes at ≡ line_feed → ⊥) → OnOneLine bytes at (at + 1)
 byte_on_one_line bytes at n i l h = let same : i ≡ at = omega arith in rw same n
 
--- digits
+-- digits hold no line feed
 digits_on_one_line : (bytes : List ℕ) (from to line : ℕ) → IsLineNumber bytes from to line → OnOneLine bytes from to
 digits_on_one_line bytes from to line n i l h e = let d = n.digits i l h in omega arith
 
--- flags, which go forward
+-- flags go forward
 flags_forward : (bytes : List ℕ) {from to : ℕ} → AreFlags bytes from to → from ≤ to
 flags_forward bytes none = omega arith
 flags_forward bytes (flag g l h r) = let f = flags_forward bytes r in let s = g.some in omega arith
 
+-- flags hold no line feed
 flags_on_one_line : (bytes : List ℕ) {from to : ℕ} → AreFlags bytes from to → OnOneLine bytes from to
 flags_on_one_line bytes none = λ i l h e. omega arith
 flags_on_one_line bytes {from = from} {to = to} (flag {digit = digit} g l h r) =
@@ -162,6 +170,7 @@ file_forward bytes from to (Some name) a =
     let end = a.end in
     omega arith
 
+-- a file's name holds no line feed
 file_on_one_line : (bytes : List ℕ) (from to : ℕ) (file : Option (List ℕ)) → IsFilePart bytes from to file → OnOneLine bytes from to
 file_on_one_line bytes from to None a = λ i l h e. omega arith
 file_on_one_line bytes from to (Some name) a =
@@ -174,7 +183,7 @@ file_on_one_line bytes from to (Some name) a =
     (join_one_line bytes a.opening (a.opening + 1) (a.closing + 1) (byte_on_one_line bytes a.opening (λ e. omega arith)) inner) in
     rw a.end all
 
--- a line marker has a byte, and stands on one line
+-- a line marker has a byte
 pub marker_forward : (bytes : List ℕ) (from to line : ℕ) (file : Option (List ℕ)) → IsMarkerOf bytes from to line file → from < to
 marker_forward bytes from to line file a =
     let gap = a.gap.some in
@@ -183,6 +192,7 @@ marker_forward bytes from to line file a =
     let g = flags_forward bytes a.flagged in
     omega arith
 
+-- a line marker stands on one line
 pub marker_on_one_line : (bytes : List ℕ) (from to line : ℕ) (file : Option (List ℕ)) → IsMarkerOf bytes from to line file → OnOneLine bytes from to
 marker_on_one_line bytes from to line file a =
     let sign = a.sign in
@@ -191,28 +201,188 @@ marker_on_one_line bytes from to line file a =
     join_one_line bytes from (from + 1) to (byte_on_one_line bytes from (λ e. omega arith))
     (join_one_line bytes (from + 1) a.number to (blanks_on_one_line bytes (from + 1) a.number a.gap.blanks) number)
 
--- the word of a pragma holds no line feed
+-- `pragma` holds no line feed
 no_feed_in_word : (i : ℕ) → i < 6 → slice_index (codes "pragma") i ≡ line_feed → ⊥
 no_feed_in_word i l e = let passed = AllPass-from_list_all (λ byte. not (byte == line_feed)) (codes "pragma") refl i 0 l in let feed = rw e at passed in cc
 
+-- a byte of the word of a pragma, by its place in the text
 byte_of_word : (bytes : List ℕ) (word i : ℕ) → slice_range bytes word (word + 6) ≡ codes "pragma" → word ≤ i → i < word + 6 → slice_index (codes "pragma") (i - word) ≡ slice_index bytes i
 byte_of_word bytes word i h l m =
     let same : word + (i - word) ≡ i = omega arith in
     let part = part_at bytes word (word + 6) (i - word) (omega arith) in
     rw (h, same) at part
 
+-- the word of a pragma stands on one line
 word_on_one_line : (bytes : List ℕ) (word : ℕ) → slice_range bytes word (word + 6) ≡ codes "pragma" → OnOneLine bytes word (word + 6)
 word_on_one_line bytes word h i l m e =
     let b = byte_of_word bytes word i h l m in
     no_feed_in_word (i - word) (omega arith) (b ∙ e)
 
--- a pragma has a byte, and stands on one line
+-- a pragma has a byte
 pub pragma_forward : (bytes : List ℕ) (from to : ℕ) → IsPragma bytes from to → from < to
 pragma_forward bytes from to a = let behind = a.behind in let past = a.past in omega arith
 
+-- a pragma stands on one line
 pub pragma_on_one_line : (bytes : List ℕ) (from to : ℕ) → IsPragma bytes from to → OnOneLine bytes from to
 pragma_on_one_line bytes from to a =
     let sign = a.sign in
     join_one_line bytes from (from + 1) to (byte_on_one_line bytes from (λ e. omega arith))
     (join_one_line bytes (from + 1) a.word to (blanks_on_one_line bytes (from + 1) a.word a.blanks)
     (join_one_line bytes a.word (a.word + 6) to (word_on_one_line bytes a.word a.pragma) a.one_line))
+
+-- the word of a pragma stands at `word`, before the end of the pragma
+pub record IsPragmaAt (bytes : List ℕ) (word to : ℕ) : Type 0 where
+  pub room : word + 6 ≤ to
+  pub spelled : slice_range bytes word (word + 6) ≡ codes "pragma"
+
+-- the word of a pragma stands where the blanks behind its sign end
+pub word_of_pragma : (bytes : List ℕ) (from to word : ℕ) → IsPragma bytes from to → from + 1 ≤ word → AreLineBlanks bytes (from + 1) word → (word < length bytes → IsLineBlank (slice_index bytes word) → ⊥) → IsPragmaAt bytes word to
+word_of_pragma bytes from to word p behind blanks ends =
+    let letter = letter_at_word bytes p.word p.pragma in
+    let same : p.word ≡ word = blanks_once bytes (from + 1) p.word word p.behind behind p.blanks blanks (λ b. grind arith) (no_blank_past bytes word ends) in
+    record { room = rw same at p.past; spelled = rw same at p.pragma }
+
+-- flags, and one more behind them
+pub flags_more : (bytes : List ℕ) {from at digit : ℕ} → AreFlags bytes from at → IsGap bytes at digit → 49 ≤ slice_index bytes digit → slice_index bytes digit ≤ 52 → AreFlags bytes from (digit + 1)
+flags_more bytes none g l h = flag g l h none
+flags_more bytes (flag i m k r) g l h = flag i m k (flags_more bytes r g l h)
+
+-- the flags of a marker end where no flag begins
+flags_stop : (bytes : List ℕ) {from p q : ℕ} → AreFlags bytes from p → AreFlags bytes from q → (BeginsFlag bytes p → ⊥) → EndsLine bytes q → q ≡ p
+flags_stop bytes none none e f = refl
+flags_stop bytes none (flag {digit = digit} g l h r) e f = absurd (e (record { digit = digit; inside = inside bytes digit (omega arith); gap = g; low = l; high = h }))
+flags_stop bytes (flag g l h r) none e f = absurd (no_gap_at_end bytes _ _ f g)
+flags_stop bytes {p = p} {q = q} (flag {from = from} {digit = d} g l h r) (flag {digit = c} i m k s) e f =
+    let same : d ≡ c = gap_once bytes from d c g i (λ b. grind arith) (λ b. grind arith) in
+    flags_stop bytes r (subst (λ digit. AreFlags bytes (digit + 1) q) (sym same) s) e f
+
+-- what stands of a marker behind the gap
+pub record IsMarkerTail (bytes : List ℕ) (number to line : ℕ) (file : Option (List ℕ)) : Type 0 where
+  pub past : ℕ
+  pub flags : ℕ
+  pub within : past ≤ length bytes
+  pub line_number : IsLineNumber bytes number past line
+  pub ends : IsDigit (slice_index bytes past) → ⊥
+  pub rest : IsMarkerRest bytes past flags to file
+
+-- a marker goes on where its gap ends
+pub marker_tail : (bytes : List ℕ) (from number to line : ℕ) (file : Option (List ℕ)) → IsMarkerOf bytes from to line file → EndsGap bytes (from + 1) number → IsMarkerTail bytes number to line file
+marker_tail bytes from number to line file m g =
+    let same : m.number ≡ number = gap_once bytes (from + 1) m.number number m.gap g.gap
+    (no_blank_at_number bytes m.number m.past line m.line_number) (no_blank_past bytes number g.ends) in
+    let within = (line_end bytes to m.ends_line).within in
+    let f = file_forward bytes m.past m.flags file m.file_part in
+    let g = flags_forward bytes m.flagged in
+    record {
+      past = m.past;
+      flags = m.flags;
+      within = omega arith;
+      line_number = rw same at m.line_number;
+      ends = no_digit_behind bytes m.past m.flags to file m.file_part m.flagged m.ends_line;
+      rest = record { file_part = m.file_part; flagged = m.flagged; ends_line = m.ends_line };
+    }
+
+-- a marker has a gap, which ends within the text
+pub marker_gap : (bytes : List ℕ) (from to line : ℕ) (file : Option (List ℕ)) → IsMarkerOf bytes from to line file → (number : ℕ) × (number ≤ length bytes) × IsGap bytes (from + 1) number
+marker_gap bytes from to line file m =
+    let d = m.line_number.digits m.number (omega arith) m.line_number.some in
+    let within = inside bytes m.number (omega arith) in
+    (m.number, omega arith, m.gap)
+
+-- a marker goes on where its number ends
+pub marker_rest : (bytes : List ℕ) (number past to line other : ℕ) (file : Option (List ℕ)) → IsMarkerTail bytes number to line file → IsLineNumber bytes number past other → (past < length bytes → IsDigit (slice_index bytes past) → ⊥) → (flags : ℕ) × IsMarkerRest bytes past flags to file
+marker_rest bytes number past to line other file t n ends =
+    let same = number_once bytes number t.past past line other t.line_number n t.ends
+    (λ d. ends (inside bytes past (omega arith)) d) in
+    (t.flags, subst (λ at. IsMarkerRest bytes at t.flags to file) same.0 t.rest)
+
+-- a marker ends where no more flag begins
+pub marker_end : (bytes : List ℕ) (from flags past to end : ℕ) (file name : Option (List ℕ)) → IsMarkerRest bytes from past to file → IsLastFile bytes from flags name → AreFlags bytes flags end → (BeginsFlag bytes end → ⊥) → EndsLine bytes end
+marker_end bytes from flags past to end file name r last flagged stops =
+    let within = (line_end bytes to r.ends_line).within in
+    let same = last.only file past to within r in
+    let stop = flags_stop bytes flagged (subst (λ at. AreFlags bytes at to) same r.flagged) stops r.ends_line in
+    subst (EndsLine bytes) stop r.ends_line
+
+-- where a marker has a name, it opens where the gap ends
+pub quote_at_gap : (bytes : List ℕ) (from at opening : ℕ) → EndsGap bytes from at → IsGap bytes from opening → slice_index bytes opening ≡ double_quote → (slice_index bytes at ≡ double_quote) × (at < length bytes)
+quote_at_gap bytes from at opening g gap quote =
+    let same : opening ≡ at = gap_once bytes from opening at gap g.gap (λ b. grind arith) (no_blank_past bytes at g.ends) in
+    let is = rw same at quote in
+    (is, inside bytes at (omega arith))
+
+-- the quotes that open at the place are closed directly before `past`
+pub record IsNamedRest (bytes : List ℕ) (opening past : ℕ) : Type 0 where
+  pub closing : ℕ
+  pub within : closing < length bytes
+  pub quoted : IsQuoted bytes (slice_index bytes opening) opening closing
+  pub end : past ≡ closing + 1
+
+-- where a quote stands behind the gap, a marker goes on with a name
+pub named_rest : (bytes : List ℕ) (from opening past to : ℕ) (file : Option (List ℕ)) → EndsGap bytes from opening → slice_index bytes opening ≡ double_quote → IsMarkerRest bytes from past to file → IsNamedRest bytes opening past
+named_rest bytes from opening past to None g quote r = absurd (no_flag_at_quote bytes from opening g.gap quote (subst (λ at. AreFlags bytes at to) (sym r.file_part) r.flagged) r.ends_line)
+named_rest bytes from opening past to (Some name) g quote r =
+    let n = r.file_part in
+    let opens = n.quoted.opens in
+    let closes = n.quoted.closes in
+    let same : n.opening ≡ opening = gap_once bytes from n.opening opening n.gap g.gap (λ b. grind arith) (no_blank_past bytes opening g.ends) in
+    let here = subst (λ at. IsQuoted bytes double_quote at n.closing) same n.quoted in
+    record {
+      closing = n.closing;
+      within = inside bytes n.closing (omega arith);
+      quoted = subst (λ byte. IsQuoted bytes byte opening n.closing) (sym quote) here;
+      end = n.end;
+    }
+
+-- behind the closing quote it goes on, and nowhere else
+pub named_last : (bytes : List ℕ) (from opening closing : ℕ) → EndsGap bytes from opening → slice_index bytes opening ≡ double_quote → IsQuoted bytes (slice_index bytes opening) opening closing → IsLastFile bytes from (closing + 1) (Some (slice_range bytes (opening + 1) closing))
+named_last bytes from opening closing g quote quoted = record {
+  part = record {
+    opening = opening;
+    closing = closing;
+    gap = g.gap;
+    quoted = subst (λ byte. IsQuoted bytes byte opening closing) quote quoted;
+    end = refl;
+    name_is = refl;
+  };
+  only = λ other past to within rest.
+      let n = named_rest bytes from opening past to other g quote rest in
+      let same = quoted_once bytes (slice_index bytes opening) opening n.closing closing (λ e. omega arith) n.quoted quoted in
+      n.end ∙ ap (λ at. at + 1) same;
+}
+
+-- where no quote stands behind the gap, or no gap, a marker goes on without a name
+pub nameless_rest : (bytes : List ℕ) (from past to : ℕ) (file : Option (List ℕ)) → ((opening : ℕ) → IsGap bytes from opening → slice_index bytes opening ≡ double_quote → ⊥) → IsMarkerRest bytes from past to file → past ≡ from
+nameless_rest bytes from past to None no_name r = sym r.file_part
+nameless_rest bytes from past to (Some name) no_name r = absurd (no_name r.file_part.opening r.file_part.gap r.file_part.quoted.opens)
+
+-- a pragma is the only directive at its place
+pub pragma_last : (bytes : List ℕ) (from to : ℕ) → to ≤ length bytes → IsPragma bytes from to → IsLastDirective bytes from to Pragma
+pragma_last bytes from to within p = record {
+  is = inr refl;
+  within = within;
+  spelled = p;
+  only = λ other past l is s. elim is [
+    | inl e ↦ let m = subst (Spells bytes from past) e s in absurd (marker_no_pragma bytes from past to m.0 m.1 m.2 p)
+    | inr e ↦ pragma_once bytes from past to (subst (Spells bytes from past) e s) p
+  ];
+}
+
+-- so is a line marker
+pub marker_last : (bytes : List ℕ) (from to line : ℕ) (file : Option (List ℕ)) → to ≤ length bytes → IsMarkerOf bytes from to line file → IsLastDirective bytes from to Line
+marker_last bytes from to line file within m = record {
+  is = inl refl;
+  within = within;
+  spelled = (line, file, m);
+  only = λ other past l is s. elim is [
+    | inl e ↦ let n = subst (Spells bytes from past) e s in (marker_once bytes from past to n.0 line n.1 file n.2 m).0
+    | inr e ↦ absurd (marker_no_pragma bytes from to past line file m (subst (Spells bytes from past) e s))
+  ];
+}
+
+-- where neither stands, no directive does
+pub no_directive : (bytes : List ℕ) (from : ℕ) → ((to : ℕ) → to ≤ length bytes → IsPragma bytes from to → ⊥) → ((to line : ℕ) (file : Option (List ℕ)) → to ≤ length bytes → IsMarkerOf bytes from to line file → ⊥) → (kind : Kind) (past : ℕ) → past ≤ length bytes → IsDirectiveKind kind → Spells bytes from past kind → ⊥
+no_directive bytes from no_pragma no_marker kind past l is s = elim is [
+  | inl e ↦ let m = subst (Spells bytes from past) e s in no_marker past m.0 m.1 l m.2
+  | inr e ↦ no_pragma past l (subst (Spells bytes from past) e s)
+]

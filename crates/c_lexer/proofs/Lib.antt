@@ -9,3 +9,4 @@ pub mod OneReading
 pub mod SomeReading
 pub mod Lines
 pub mod Directives
+pub mod LineNumbers

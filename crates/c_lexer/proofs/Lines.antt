@@ -1,5 +1,5 @@
 -- Where lines begin and end.
-use Rattle.std.proofs.Common.{◌≡◌, ℕ, ◌+◌, ◌⊎◌, ◌<◌, ◌≤◌, List, length, slice_index, refl, arith, inl, inr}
+use Rattle.std.proofs.Common.{◌≡◌, ℕ, ◌⊎◌, ◌<◌, ◌≤◌, List, length, slice_index, arith, inl, inr}
 use Rattle.std.proofs.lemmas.Bool.{cases_lt, cases_order}
 use Rattle.std.proofs.lemmas.List.{get_or_past}
 use Rattle.c_lexer.specs.Bytes.{line_feed, IsLineBlank}
@@ -12,11 +12,12 @@ inside bytes at h = elim (cases_lt at (length bytes)) [
   | inr l ↦ absurd (omega (arith, get_or_past bytes at 0 l))
 ]
 
--- the end of a line, and so no blank, no digit and no quote
+-- the place is within the text or its end, and no byte but a line feed stands there
 pub record IsLineEnd (bytes : List ℕ) (at : ℕ) : Type 0 where
   pub within : at ≤ length bytes
   pub byte : (slice_index bytes at ≡ 0) ⊎ (slice_index bytes at ≡ line_feed)
 
+-- what stands where a line ends
 pub line_end : (bytes : List ℕ) (at : ℕ) → EndsLine bytes at → IsLineEnd bytes at
 line_end bytes at (inl e) = record { within = omega arith; byte = inl (get_or_past bytes at 0 (omega arith)) }
 line_end bytes at (inr e) = record { within = (let l = inside bytes at (omega arith) in omega arith); byte = inr e }
