@@ -6,7 +6,8 @@ use Rattle.c_lexer.specs.declared.token.Kind.{Kind}
 use Rattle.c_lexer.specs.declared.token.Kind.TheVariants.{Char, Text, Line, Pragma}
 use Rattle.c_lexer.specs.declared.marker.Marker.{Marker}
 use Rattle.c_lexer.specs.Bytes.{IsLineBlank}
-use Rattle.c_lexer.specs.Directives.{IsGap}
+use Rattle.c_lexer.specs.Lines.{EndsLine}
+use Rattle.c_lexer.specs.Directives.{AreFlags, IsFilePart, IsGap}
 use Rattle.c_lexer.specs.Spelling.{Spells}
 
 -- A literal, or a line that begins with `#`.
@@ -44,6 +45,19 @@ pub record BeginsFlag (bytes : List ℕ) (from : ℕ) : Type 0 where
   pub gap : IsGap bytes from digit
   pub low : 49 ≤ slice_index bytes digit
   pub high : slice_index bytes digit ≤ 52
+
+-- Behind the number of a line stand the name of a file, if there is one, and flags to the end of the
+-- line.
+pub record IsMarkerRest (bytes : List ℕ) (from flags to : ℕ) (file : Option (List ℕ)) : Type 0 where
+  pub file_part : IsFilePart bytes from flags file
+  pub flagged : AreFlags bytes flags to
+  pub ends_line : EndsLine bytes to
+
+-- The file's name, or its lack, is the one with which a marker may go on.
+pub record IsLastFile (bytes : List ℕ) (from flags : ℕ) (file : Option (List ℕ)) : Type 0 where
+  pub part : IsFilePart bytes from flags file
+  pub only : (other : Option (List ℕ)) (past to : ℕ) → to ≤ length bytes →
+      IsMarkerRest bytes from past to other → past ≡ flags
 
 -- The name of the file in a marker that was read.
 abbrev pub name_of : Option (Bor (List ℕ)) → Option (List ℕ)

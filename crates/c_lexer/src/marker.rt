@@ -3,8 +3,8 @@
 ghost use Rattle.std.specs.Prelude.{ℕ, ◌≡◌, ◌<◌, ◌≤◌, List, Option, length, slice_index, MatchOption};
 ghost use Rattle.c_lexer.specs.Bytes.{IsDigit, IsLineBlank, number_sign};
 ghost use Rattle.c_lexer.specs.Lines.{BeginsLine};
-ghost use Rattle.c_lexer.specs.Directives.{AreFlags, IsFilePart, IsGap, IsLineMarker, IsLineNumber, IsMarkerOf};
-ghost use Rattle.c_lexer.specs.Scanning.{BeginsFlag, EndsGap, file_of};
+ghost use Rattle.c_lexer.specs.Directives.{AreFlags, IsGap, IsLineMarker, IsLineNumber, IsMarkerOf};
+ghost use Rattle.c_lexer.specs.Scanning.{BeginsFlag, EndsGap, IsLastFile, IsMarkerRest, file_of, name_of};
 
 use crate::byte_class::is_digit;
 use crate::lexer::MAX_FILE_BYTES;
@@ -105,6 +105,11 @@ fn line_number(bytes: &[u8], from: usize) -> Option<(u32, usize)>
 fn file_part<'b>(bytes: &'b [u8], from: usize) -> Option<(Option<&'b [u8]>, usize)>
     requires inside { from ≤ length bytes.now }
     requires small { length bytes.now ≤ MAX_FILE_BYTES }
+    ensures { MatchOption result
+        ((file : Option (List ℕ)) (past to : ℕ) → to ≤ length bytes.entry.now →
+        IsMarkerRest bytes.entry.now from past to file → ⊥)
+        (λ part. (part.1 ≤ length bytes.entry.now)
+        × IsLastFile bytes.entry.now from part.1 (name_of part.0)) }
 {
     match gap_end(bytes, from) {
         Some(opening) if opening < bytes.len() && bytes[opening] == b'"' => {

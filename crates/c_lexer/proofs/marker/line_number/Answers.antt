@@ -1,0 +1,23 @@
+use Rattle.std.proofs.Common.{slice_index, arith, rules}
+use Rattle.c_lexer.specs.Bytes.{IsDigit}
+use Rattle.c_lexer.proofs.LineNumbers.{run_more, value_more, number_too_large}
+use Rattle.c_lexer.proofs.marker.line_number.Goals as goal
+
+pub returns-then-line-gt-MAX_LINE : goal.returns-then-line-gt-MAX_LINE
+returns-then-line-gt-MAX_LINE c to line within ends number =
+    let i = c.loop-past.invariant in
+    let digit : IsDigit (slice_index c.args.bytes.now c.loop-past.past) = search rules in
+    number_too_large c.args.bytes.now c.args.from c.loop-past.past c.loop-past.line to line (omega arith) i.low i.digits digit i.value (omega arith) within ends number
+
+pub loop-past-preserved : goal.loop-past-preserved
+loop-past-preserved c =
+    let i = c.loop-past.invariant in
+    let digit : IsDigit (slice_index c.args.bytes.now c.loop-past.past) = search rules in
+    let more = value_more c.args.bytes.now c.args.from c.loop-past.past c.loop-past.line i.low (omega arith) i.value in
+    record {
+      low = omega arith;
+      high = omega arith;
+      digits = run_more IsDigit c.args.bytes.now c.args.from c.loop-past.past i.digits digit;
+      value = omega arith;
+      small = omega arith;
+    }
