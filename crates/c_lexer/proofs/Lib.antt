@@ -4,6 +4,7 @@ pub mod Classes
 pub mod Tables
 pub mod Longest
 pub mod Places
+pub mod Comments
 pub mod Steps
 pub mod OneReading
 pub mod SomeReading
