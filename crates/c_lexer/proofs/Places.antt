@@ -1,19 +1,13 @@
 -- Lines and columns.
 use Rattle.std.proofs.Common.{◌≡◌, ◌==◌, ℕ, suc, zero, ◌+◌, ◌-◌, ◌<◌, ◌≤◌, not, true, false, List, length, take, slice_index, refl, ap, add-zero, arith, eq-eqb, length-take, length-drop, get_or-take, inl, inr}
 use Rattle.std.proofs.lemmas.Bool.{cases_lt}
-use Rattle.std.proofs.lemmas.List.Sums.{count_by_more_yes, count_by_more_no, suffix_len_is}
+use Rattle.std.proofs.lemmas.List.Sums.{count_by_more_no, suffix_len_is}
 use Rattle.std.specs.List.{suffix_len}
 use Rattle.c_lexer.specs.Bytes.{line_feed}
 use Rattle.c_lexer.specs.Lines.{line_at, column_at, OnOneLine}
 
--- a line feed begins a line
-pub next_line : (bytes : List ℕ) (at : ℕ) → at < length bytes → slice_index bytes at ≡ line_feed → line_at bytes (at + 1) ≡ line_at bytes at + 1
-next_line bytes at h e =
-    let yes : (slice_index bytes at == line_feed) ≡ true = eq-eqb _ _ e in
-    ap (λ n. n + 1) (count_by_more_yes (λ b. b == line_feed) bytes at 0 h yes)
-
--- any other byte does not
-pub same_line : (bytes : List ℕ) (at : ℕ) → at < length bytes → (slice_index bytes at ≡ line_feed → ⊥) → line_at bytes (at + 1) ≡ line_at bytes at
+-- a byte that is no line feed begins no line
+same_line : (bytes : List ℕ) (at : ℕ) → at < length bytes → (slice_index bytes at ≡ line_feed → ⊥) → line_at bytes (at + 1) ≡ line_at bytes at
 same_line bytes at h none =
     let no : (slice_index bytes at == line_feed) ≡ false = grind (arith, none) in
     ap (λ n. n + 1) (count_by_more_no (λ b. b == line_feed) bytes at 0 h no)
