@@ -8,7 +8,8 @@ use crate::lexer::MAX_FILE_BYTES;
 use crate::token::{Kind, Token};
 use std::marker::Model;
 
-/// A place in a text. Contracts see the text and the place.
+/// A place in a text. Contracts see the text and the place. The line is always that of the place, and
+/// begins at `line_start`.
 #[derive(Drop)]
 pub(crate) struct Cursor<'b> {
     bytes: &'b [u8],
@@ -18,7 +19,7 @@ pub(crate) struct Cursor<'b> {
 }
 
 impl<'b> Model for Cursor<'b> {
-    ghost use Rattle.std.specs.Prelude.{◌≡◌, ◌-◌, ◌<◌, ◌≤◌, length, slice_index};
+    ghost use Rattle.std.specs.Prelude.{◌≡◌, ◌+◌, ◌-◌, ◌<◌, ◌≤◌, length, slice_index};
     ghost use Rattle.c_lexer.specs.Bytes.{line_feed};
     ghost use Rattle.c_lexer.specs.Lines.{OnOneLine, line_at};
     ghost use Rattle.c_lexer.specs.Scanning.{Place, place};
