@@ -1,122 +1,192 @@
 -- Which token is the longest at a place.
-use Rattle.std.proofs.Common.{◌≡◌, ℕ, ◌+◌, ◌-◌, ◌<◌, ◌≤◌, List, [], ◌∷◌, length, slice_range, slice_index, refl, arith, inl}
-use Rattle.std.proofs.Math.Seq.{drop-cons}
-use Rattle.c_lexer.specs.Bytes.{IsLetter, IsDigit, IsWordByte}
-use Rattle.c_lexer.specs.Marks.{IsMark}
-use Rattle.c_lexer.specs.Spelling.{Spells, IsName, IsDigits}
+use Rattle.std.proofs.Common.{◌≡◌, ℕ, ◌+◌, ◌-◌, ◌<◌, ◌≤◌, ◌⊎◌, List, Option, Some, None, MatchOption, length, slice_range, slice_index, refl, arith, inl, inr}
+use Rattle.std.proofs.lemmas.Bool.{cases_lt, cases_order}
+use Rattle.c_lexer.specs.Bytes.{IsLetter, IsDigit, IsWordByte, full_stop, number_sign, single_quote, double_quote}
+use Rattle.c_lexer.specs.Lines.{OnOneLine}
+use Rattle.c_lexer.specs.Marks.{IsMarkAt, IsSecond}
+use Rattle.c_lexer.specs.Numbers.{BeginsNumber, IsNumber}
+use Rattle.c_lexer.specs.Spelling.{Spells, IsName, IsWord}
 use Rattle.c_lexer.specs.Reading.{IsLongest, BeginsNoToken}
+use Rattle.c_lexer.specs.Scanning.{IsLiteralKind, IsLastLiteral, IsDirectiveKind, IsLastDirective}
 use Rattle.c_lexer.specs.declared.token.Kind.{Kind}
 use Rattle.c_lexer.specs.declared.token.Kind.TheVariants.{Word, Key, Number, Char, Text, Mark, Line, Pragma}
-use Rattle.c_lexer.proofs.Parts.{part_length, part_at, part_first, begun}
-use Rattle.c_lexer.proofs.Tables.{keyword_name, mark_text}
+use Rattle.c_lexer.proofs.Parts.{part_length, part_at, part_first}
+use Rattle.c_lexer.proofs.Tables.{keyword_name}
+use Rattle.c_lexer.proofs.Marks.{mark_reach, mark_on_one_line}
+use Rattle.c_lexer.proofs.Numbers.{number_on_one_line}
+use Rattle.c_lexer.specs.Literals.{IsLiteral}
+use Rattle.c_lexer.proofs.Literals.{IsForm, char_form, text_form, literal_before, literal_on_one_line, quote_no_word_byte, spelled_literal}
+use Rattle.c_lexer.proofs.Directives.{marker_on_one_line, pragma_on_one_line}
+use Rattle.c_lexer.proofs.Firsts.{First, first_of_kind}
 
--- no byte is a letter and a digit
-pub letter_no_digit : (byte : ℕ) → IsLetter byte → IsDigit byte → ⊥
-letter_no_digit byte l d = grind arith
+-- ---- Lines
 
--- a run of letters, digits and `_`
-module _ (bytes : List ℕ) (from to : ℕ) (inside : from < length bytes) (low : from ≤ to) (within : to ≤ length bytes) (first : IsLetter (slice_index bytes from))
-    (each : (i : ℕ) → from ≤ i → i < to → IsWordByte (slice_index bytes i)) (ends : to < length bytes → IsWordByte (slice_index bytes to) → ⊥) where
-  pub some_name : from < to
-  some_name = begun IsWordByte bytes from to low inside (inl first) ends
+-- a name has no line feed
+name_on_one_line : (bytes : List ℕ) (from to : ℕ) → to ≤ length bytes → IsName (slice_range bytes from to) → OnOneLine bytes from to
+name_on_one_line bytes from to w n i a b e =
+    let l = part_length bytes from to w in
+    let f : from + (i - from) < to = omega arith in
+    let same : from + (i - from) ≡ i = omega arith in
+    let here = rw (part_at bytes from to (i - from) f, same, e) at (n.each (i - from) (omega (arith, l))) in
+    grind arith
 
-  pub run_name : IsName (slice_range bytes from to)
-  run_name =
-      let l = part_length bytes from to within in
-      let s = some_name in
-      record {
-        some = omega (arith, l);
-        first = rw (part_first bytes from to s) first;
-        each = λ i h. let g : from + i < to = omega (arith, l) in rw (part_at bytes from to i g) (each (from + i) (omega arith) g);
-      }
+-- a token stays on its line
+kind_on_one_line : (bytes : List ℕ) (from to : ℕ) (kind : Kind) → to ≤ length bytes → Spells bytes from to kind → OnOneLine bytes from to
+kind_on_one_line bytes from to Word w s = name_on_one_line bytes from to w s.name
+kind_on_one_line bytes from to (Key k) w s = name_on_one_line bytes from to w (keyword_name _ k s)
+kind_on_one_line bytes from to Number w s = number_on_one_line bytes from to s
+kind_on_one_line bytes from to Char w s = literal_on_one_line _ _ bytes from to char_form s.literal
+kind_on_one_line bytes from to Text w s = literal_on_one_line _ _ bytes from to text_form s
+kind_on_one_line bytes from to (Mark k) w s = mark_on_one_line bytes from to k s w
+kind_on_one_line bytes from to Line w s = marker_on_one_line bytes from to s.0 s.1 s.2
+kind_on_one_line bytes from to Pragma w s = pragma_on_one_line bytes from to s
 
-  no_name : (past : ℕ) → to < past → past ≤ length bytes → IsName (slice_range bytes from past) → ⊥
-  no_name past h w n =
-      let l = part_length bytes from past w in
-      let g : from + (to - from) < past = omega arith in
-      let same : from + (to - from) ≡ to = omega arith in
-      ends (omega arith) (rw (part_at bytes from past (to - from) g, same) at (n.each (to - from) (omega (arith, l))))
+pub longest_on_one_line : (bytes : List ℕ) (from to : ℕ) (kind : Kind) → IsLongest bytes from to kind → OnOneLine bytes from to
+longest_on_one_line bytes from to kind h = kind_on_one_line bytes from to kind h.within h.spelled
 
-  no_longer : (kind : Kind) (past : ℕ) → to < past → past ≤ length bytes → Spells bytes from past kind → ⊥
-  no_longer Word past h w s = no_name past h w s.0
-  no_longer (Key k) past h w s = no_name past h w (keyword_name _ k s)
-  no_longer Number past h w s =
-      let l : from < past = omega arith in
-      letter_no_digit _ first (rw (part_first bytes from past l) at (s.each 0 s.some))
-  no_longer Char past h w s = s
-  no_longer Text past h w s = s
-  no_longer (Mark k) past h w s = let l = part_length bytes from past w in let m = mark_text _ k s in let some = some_name in omega (arith, m.one)
-  no_longer Line past h w s = s
-  no_longer Pragma past h w s = s
+-- ---- Names
 
-  pub longest_name : (kind : Kind) → Spells bytes from to kind → IsLongest bytes from to kind
-  longest_name kind s = record { some = some_name; within = within; spelled = s; longest = no_longer }
+-- a name ends where no word byte stands
+name_ends : (bytes : List ℕ) (from n past : ℕ) → from ≤ n → n < past → past ≤ length bytes → (IsWordByte (slice_index bytes n) → ⊥) → IsName (slice_range bytes from past) → ⊥
+name_ends bytes from n past a b w none s =
+    let l = part_length bytes from past w in
+    let f : from + (n - from) < past = omega arith in
+    let same : from + (n - from) ≡ n = omega arith in
+    none (rw (part_at bytes from past (n - from) f, same) at (s.each (n - from) (omega (arith, l))))
 
--- a run of digits
-module _ (bytes : List ℕ) (from to : ℕ) (inside : from < length bytes) (low : from ≤ to) (within : to ≤ length bytes) (first : IsDigit (slice_index bytes from))
-    (each : (i : ℕ) → from ≤ i → i < to → IsDigit (slice_index bytes i)) (ends : to < length bytes → IsDigit (slice_index bytes to) → ⊥) where
-  some_digit : from < to
-  some_digit = begun IsDigit bytes from to low inside first ends
+-- a letter begins no number, no mark and no line with `#`
+module _ (bytes : List ℕ) (from to n : ℕ) (letter : IsLetter (slice_index bytes from)) (forward : from ≤ n) (behind : n ≤ to)
+    (ends : n < length bytes → IsWordByte (slice_index bytes n) → ⊥)
+    (no_literal : (kind : Kind) (past : ℕ) → to < past → past ≤ length bytes → IsLiteralKind kind → Spells bytes from past kind → ⊥) where
+  letter_longest : (kind : Kind) (past : ℕ) → from < to → to < past → past ≤ length bytes → Spells bytes from past kind → ⊥
+  letter_longest Word past m h w s = name_ends bytes from n past forward (omega arith) w (ends (omega arith)) s.name
+  letter_longest (Key k) past m h w s = name_ends bytes from n past forward (omega arith) w (ends (omega arith)) (keyword_name _ k s)
+  letter_longest Number past m h w s = let f = first_of_kind bytes from past Number (omega arith) w s in grind arith
+  letter_longest Char past m h w s = no_literal Char past h w (inl refl) s
+  letter_longest Text past m h w s = no_literal Text past h w (inr refl) s
+  letter_longest (Mark k) past m h w s = (first_of_kind bytes from past (Mark k) (omega arith) w s).no_letter letter
+  letter_longest Line past m h w s = let f = first_of_kind bytes from past Line (omega arith) w s in grind arith
+  letter_longest Pragma past m h w s = let f = first_of_kind bytes from past Pragma (omega arith) w s in grind arith
 
-  run_digits : IsDigits (slice_range bytes from to)
-  run_digits =
-      let l = part_length bytes from to within in
-      let s = some_digit in
-      record {
-        some = omega (arith, l);
-        each = λ i h. let g : from + i < to = omega (arith, l) in rw (part_at bytes from to i g) (each (from + i) (omega arith) g);
-      }
+  pub longest_at_letter : (kind : Kind) → from < to → to ≤ length bytes → Spells bytes from to kind → IsLongest bytes from to kind
+  longest_at_letter kind some within s = record { some = some; within = within; spelled = s; longest = λ k p. letter_longest k p some }
 
-  digit_no_name : (past : ℕ) → to < past → past ≤ length bytes → IsName (slice_range bytes from past) → ⊥
-  digit_no_name past h w n = let l : from < past = omega arith in letter_no_digit _ (rw (part_first bytes from past l) at n.first) first
+-- ---- Literals with a prefix
 
-  digit_no_longer : (kind : Kind) (past : ℕ) → to < past → past ≤ length bytes → Spells bytes from past kind → ⊥
-  digit_no_longer Word past h w s = digit_no_name past h w s.0
-  digit_no_longer (Key k) past h w s = digit_no_name past h w (keyword_name _ k s)
-  digit_no_longer Number past h w s =
-      let l = part_length bytes from past w in
-      let g : from + (to - from) < past = omega arith in
-      let same : from + (to - from) ≡ to = omega arith in
-      ends (omega arith) (rw (part_at bytes from past (to - from) g, same) at (s.each (to - from) (omega (arith, l))))
-  digit_no_longer Char past h w s = s
-  digit_no_longer Text past h w s = s
-  digit_no_longer (Mark k) past h w s = let l = part_length bytes from past w in let m = mark_text _ k s in let some = some_digit in omega (arith, m.one)
-  digit_no_longer Line past h w s = s
-  digit_no_longer Pragma past h w s = s
+-- where no quote follows a run of word bytes, no literal begins with it
+no_literal : (prefixes : List (List ℕ)) (quote : ℕ) (bytes : List ℕ) (from n to : ℕ) → IsForm prefixes quote → from < n → ((i : ℕ) → from ≤ i → i < n → IsWordByte (slice_index bytes i)) → (n < length bytes → IsWordByte (slice_index bytes n) → ⊥) → (n < length bytes → slice_index bytes n ≡ quote → ⊥) → IsLiteral prefixes quote bytes from to → ⊥
+no_literal prefixes quote bytes from n to form some each ends no_quote l =
+    let before = literal_before prefixes quote bytes from to form l in
+    elim (cases_order l.opening n) [
+      | inl e ↦ no_quote (omega (arith, before.inside)) (rw e at l.quoted.opens)
+      | inr (inl h) ↦ quote_no_word_byte quote form.quote_is (rw l.quoted.opens at (each l.opening before.forward h))
+      | inr (inr h) ↦ ends (omega (arith, before.inside)) (before.each n (omega arith) h)
+    ]
 
-  pub longest_digits : IsLongest bytes from to Number
-  longest_digits = record { some = some_digit; within = within; spelled = run_digits; longest = digit_no_longer }
+pub no_prefixed : (bytes : List ℕ) (from n : ℕ) → from < n → ((i : ℕ) → from ≤ i → i < n → IsWordByte (slice_index bytes i)) → (n < length bytes → IsWordByte (slice_index bytes n) → ⊥) → (n < length bytes → (slice_index bytes n ≡ single_quote → ⊥) × (slice_index bytes n ≡ double_quote → ⊥)) → (kind : Kind) (past : ℕ) → IsLiteralKind kind → Spells bytes from past kind → ⊥
+no_prefixed bytes from n some each ends none kind past is s = elim (spelled_literal bytes from past kind is s) [
+  | inl c ↦ no_literal _ _ bytes from n past char_form some each ends (λ l. (none l).0) c.literal
+  | inr t ↦ no_literal _ _ bytes from n past text_form some each ends (λ l. (none l).1) t
+]
 
--- a byte that begins no name and no number
-module _ (bytes : List ℕ) (from : ℕ) (inside : from < length bytes) (no_letter : IsLetter (slice_index bytes from) → ⊥) (no_digit : IsDigit (slice_index bytes from) → ⊥) where
-  not_name : (to : ℕ) → from < to → IsName (slice_range bytes from to) → ⊥
-  not_name to h n = no_letter (rw (part_first bytes from to h) at n.first)
+-- ---- Tokens by their first byte
 
-  first_part : slice_range bytes from (from + 1) ≡ slice_index bytes from ∷ []
-  first_part = let one : from + 1 - from ≡ 1 = omega arith in rw (one, drop-cons bytes from 0) refl
+-- a literal that begins with a letter is the longest token there
+pub longest_prefixed : (bytes : List ℕ) (from n to : ℕ) (kind : Kind) → IsLetter (slice_index bytes from) → from < n → (n < length bytes → IsWordByte (slice_index bytes n) → ⊥) → n + 1 < to → IsLastLiteral bytes from to kind → IsLongest bytes from to kind
+longest_prefixed bytes from n to kind letter forward ends behind h =
+    longest_at_letter bytes from to n letter (omega arith) (omega arith) ends (λ other past a b is s. let same = h.only other past b is s in omega arith) kind (omega arith) h.within h.spelled
 
-  -- only a mark of one byte
-  only_mark : (kind : Kind) (to : ℕ) → from < to → to ≤ length bytes → Spells bytes from to kind → (number : ℕ) × IsMark (slice_index bytes from ∷ []) number × (to ≡ from + 1)
-  only_mark Word to h w s = absurd (not_name to h s.0)
-  only_mark (Key k) to h w s = absurd (not_name to h (keyword_name _ k s))
-  only_mark Number to h w s = absurd (no_digit (rw (part_first bytes from to h) at (s.each 0 s.some)))
-  only_mark Char to h w s = absurd s
-  only_mark Text to h w s = absurd s
-  only_mark (Mark k) to h w s =
-      let l = part_length bytes from to w in
-      let m = mark_text _ k s in
-      let end : to ≡ from + 1 = omega (arith, m.one) in
-      (k, rw (end, first_part) at s, end)
-  only_mark Line to h w s = absurd s
-  only_mark Pragma to h w s = absurd s
+-- a name is the longest token where no literal begins with it
+pub longest_name : (bytes : List ℕ) (from to : ℕ) (kind : Kind) → IsLetter (slice_index bytes from) → from < to → to ≤ length bytes → (to < length bytes → IsWordByte (slice_index bytes to) → ⊥) → ((other : Kind) (past : ℕ) → past ≤ length bytes → IsLiteralKind other → Spells bytes from past other → ⊥) → Spells bytes from to kind → IsLongest bytes from to kind
+longest_name bytes from to kind letter some within ends none s =
+    longest_at_letter bytes from to to letter (omega arith) (omega arith) ends (λ other past a b is. none other past b is) kind some within s
 
-  pub none_here : ((number : ℕ) → IsMark (slice_index bytes from ∷ []) number → ⊥) → BeginsNoToken bytes from
-  none_here none kind to h w s = let found = only_mark kind to h w s in none found.0 found.1
+-- a run of word bytes that begins with a letter is a name
+pub run_name : (bytes : List ℕ) (from to : ℕ) → from < to → to ≤ length bytes → IsLetter (slice_index bytes from) → ((i : ℕ) → from ≤ i → i < to → IsWordByte (slice_index bytes i)) → IsName (slice_range bytes from to)
+run_name bytes from to s within first each =
+    let l = part_length bytes from to within in
+    record {
+      some = omega (arith, l);
+      first = rw (part_first bytes from to s) first;
+      each = λ i h. let g : from + i < to = omega (arith, l) in rw (part_at bytes from to i g) (each (from + i) (omega arith) g);
+    }
 
-  pub longest_mark : (number : ℕ) → IsMark (slice_index bytes from ∷ []) number → IsLongest bytes from (from + 1) (Mark number)
-  longest_mark number m = record {
-    some = omega arith;
-    within = omega arith;
-    spelled = rw first_part m;
-    longest = λ kind past h w s. let found = only_mark kind past (omega arith) w s in let last = found.2 in omega arith;
-  }
+-- no mark of three bytes begins as a number does
+number_no_mark : (bytes : List ℕ) (from past number : ℕ) → BeginsNumber bytes from → from + 2 ≤ past → past ≤ length bytes → IsMarkAt bytes from past number → ⊥
+number_no_mark bytes from past number (inl digit) h w m = (first_of_kind bytes from past (Mark number) (omega arith) w m).no_digit digit
+number_no_mark bytes from past number (inr point) h w m = let second = (mark_reach bytes from past number w m.mark).second h in let digit = point.1 in grind arith
+
+-- where a number begins, no longer token than the number does
+pub longest_number : (bytes : List ℕ) (from to : ℕ) → BeginsNumber bytes from → from < to → to ≤ length bytes → IsNumber bytes from to → ((past : ℕ) → to < past → past ≤ length bytes → IsNumber bytes from past → ⊥) → IsLongest bytes from to Number
+longest_number bytes from to begins some within s longest = record { some = some; within = within; spelled = s; longest = no_longer }
+  where
+    no_longer : (kind : Kind) (past : ℕ) → to < past → past ≤ length bytes → Spells bytes from past kind → ⊥
+    no_longer Word past h w t = let f = first_of_kind bytes from past Word (omega arith) w t in grind arith
+    no_longer (Key k) past h w t = let f = first_of_kind bytes from past (Key k) (omega arith) w t in grind arith
+    no_longer Number past h w t = longest past h w t
+    no_longer Char past h w t = let f = first_of_kind bytes from past Char (omega arith) w t in grind arith
+    no_longer Text past h w t = let f = first_of_kind bytes from past Text (omega arith) w t in grind arith
+    no_longer (Mark k) past h w t = number_no_mark bytes from past k begins (omega arith) w t
+    no_longer Line past h w t = let f = first_of_kind bytes from past Line (omega arith) w t in grind arith
+    no_longer Pragma past h w t = let f = first_of_kind bytes from past Pragma (omega arith) w t in grind arith
+
+-- a quote begins only literals
+at_quote : (bytes : List ℕ) (from : ℕ) → (slice_index bytes from ≡ single_quote) ⊎ (slice_index bytes from ≡ double_quote) → (kind : Kind) (past : ℕ) → from < past → past ≤ length bytes → Spells bytes from past kind → IsLiteralKind kind
+at_quote bytes from quote Word past h w t = let f = first_of_kind bytes from past Word h w t in absurd (grind arith)
+at_quote bytes from quote (Key k) past h w t = let f = first_of_kind bytes from past (Key k) h w t in absurd (grind arith)
+at_quote bytes from quote Number past h w t = let f = first_of_kind bytes from past Number h w t in absurd (grind arith)
+at_quote bytes from quote Char past h w t = inl refl
+at_quote bytes from quote Text past h w t = inr refl
+at_quote bytes from quote (Mark k) past h w t = let f = first_of_kind bytes from past (Mark k) h w t in absurd (elim quote [ inl e ↦ f.no_single e | inr e ↦ f.no_double e ])
+at_quote bytes from quote Line past h w t = let f = first_of_kind bytes from past Line h w t in absurd (grind arith)
+at_quote bytes from quote Pragma past h w t = let f = first_of_kind bytes from past Pragma h w t in absurd (grind arith)
+
+-- what stands at a quote is the literal that was found
+pub quoted_token : (bytes : List ℕ) (from : ℕ) (found : Option (Kind × ℕ)) → (slice_index bytes from ≡ single_quote) ⊎ (slice_index bytes from ≡ double_quote) → MatchOption found ((kind : Kind) (past : ℕ) → past ≤ length bytes → IsLiteralKind kind → Spells bytes from past kind → ⊥) (λ t. (from + 1 < t.1) × IsLastLiteral bytes from t.1 t.0) → MatchOption found (BeginsNoToken bytes from) (λ t. IsLongest bytes from t.1 t.0)
+quoted_token bytes from None quote none = λ kind past h w s. none kind past w (at_quote bytes from quote kind past h w s) s
+quoted_token bytes from (Some t) quote (some, last) = record {
+  some = omega arith;
+  within = last.within;
+  spelled = last.spelled;
+  longest = λ kind past h w s. let l : from < past = omega arith in let same = last.only kind past w (at_quote bytes from quote kind past l w s) s in omega arith;
+}
+
+-- a `#` begins only whole lines
+at_sign : (bytes : List ℕ) (from : ℕ) → slice_index bytes from ≡ number_sign → (kind : Kind) (past : ℕ) → from < past → past ≤ length bytes → Spells bytes from past kind → IsDirectiveKind kind
+at_sign bytes from sign Word past h w t = let f = first_of_kind bytes from past Word h w t in absurd (grind arith)
+at_sign bytes from sign (Key k) past h w t = let f = first_of_kind bytes from past (Key k) h w t in absurd (grind arith)
+at_sign bytes from sign Number past h w t = let f = first_of_kind bytes from past Number h w t in absurd (grind arith)
+at_sign bytes from sign Char past h w t = let f = first_of_kind bytes from past Char h w t in absurd (grind arith)
+at_sign bytes from sign Text past h w t = let f = first_of_kind bytes from past Text h w t in absurd (grind arith)
+at_sign bytes from sign (Mark k) past h w t = let f = first_of_kind bytes from past (Mark k) h w t in absurd (f.no_sign sign)
+at_sign bytes from sign Line past h w t = inl refl
+at_sign bytes from sign Pragma past h w t = inr refl
+
+-- what stands at a `#` is the line that was found
+pub signed_token : (bytes : List ℕ) (from : ℕ) (found : Option (Kind × ℕ)) → slice_index bytes from ≡ number_sign → MatchOption found ((kind : Kind) (past : ℕ) → past ≤ length bytes → IsDirectiveKind kind → Spells bytes from past kind → ⊥) (λ t. (from < t.1) × IsLastDirective bytes from t.1 t.0) → MatchOption found (BeginsNoToken bytes from) (λ t. IsLongest bytes from t.1 t.0)
+signed_token bytes from None sign none = λ kind past h w s. none kind past w (at_sign bytes from sign kind past h w s) s
+signed_token bytes from (Some t) sign (some, last) = record {
+  some = some;
+  within = last.within;
+  spelled = last.spelled;
+  longest = λ kind past h w s. let l : from < past = omega arith in let same = last.only kind past w (at_sign bytes from sign kind past l w s) s in omega arith;
+}
+
+-- a byte that begins nothing else
+pub record BeginsMark (bytes : List ℕ) (from : ℕ) : Type 0 where
+  pub no_letter : IsLetter (slice_index bytes from) → ⊥
+  pub no_number : BeginsNumber bytes from → ⊥
+  pub no_single : slice_index bytes from ≡ single_quote → ⊥
+  pub no_double : slice_index bytes from ≡ double_quote → ⊥
+  pub no_sign : slice_index bytes from ≡ number_sign → ⊥
+
+-- it begins only marks
+pub at_mark : (bytes : List ℕ) (from : ℕ) → BeginsMark bytes from → (kind : Kind) (past : ℕ) → from < past → past ≤ length bytes → Spells bytes from past kind → (number : ℕ) × IsMarkAt bytes from past number
+at_mark bytes from here Word past h w t = absurd (here.no_letter (first_of_kind bytes from past Word h w t))
+at_mark bytes from here (Key k) past h w t = absurd (here.no_letter (first_of_kind bytes from past (Key k) h w t))
+at_mark bytes from here Number past h w t = absurd (here.no_number (first_of_kind bytes from past Number h w t))
+at_mark bytes from here Char past h w t = absurd (elim (first_of_kind bytes from past Char h w t) [ inl e ↦ here.no_single e | inr l ↦ here.no_letter l ])
+at_mark bytes from here Text past h w t = absurd (elim (first_of_kind bytes from past Text h w t) [ inl e ↦ here.no_double e | inr l ↦ here.no_letter l ])
+at_mark bytes from here (Mark k) past h w t = (k, t)
+at_mark bytes from here Line past h w t = absurd (here.no_sign (first_of_kind bytes from past Line h w t))
+at_mark bytes from here Pragma past h w t = absurd (here.no_sign (first_of_kind bytes from past Pragma h w t))

@@ -1,10 +1,13 @@
 //! The entry: from the bytes of a file to its tokens.
 
-ghost use Rattle.std.specs.Prelude.{◌≡◌, ℕ, List, ◌<◌, ◌≤◌, length, slice_index, IfOk, IsErrOf, IsOkUnless, MatchOption};
-ghost use Rattle.c_lexer.specs.Bytes.{IsLetter, asterisk, slash};
+ghost use Rattle.std.specs.Prelude.{◌≡◌, ◌+◌, ℕ, List, ◌<◌, ◌≤◌, length, slice_index, IfOk, IsErrOf, IsOkUnless, MatchOption};
+ghost use Rattle.c_lexer.specs.Bytes.{IsLetter, IsWordByte, asterisk, slash};
 ghost use Rattle.c_lexer.specs.Comments.{BeginsComment, IsPair};
 ghost use Rattle.c_lexer.specs.Passing.{IsPassed};
 ghost use Rattle.c_lexer.specs.Reading.{AreTokensOf, BeginsNoToken, IsLongest, LeavesOpen, StopsAt};
+ghost use Rattle.c_lexer.specs.Scanning.{IsLastLiteral, IsLiteralKind};
+ghost use Rattle.c_lexer.specs.Spelling.{Spells};
+ghost use Rattle.c_lexer.specs.declared.token.Kind.{Kind};
 ghost use Rattle.c_lexer.specs.declared.token.Token.{Token};
 
 use crate::byte_class::{is_blank, is_letter};
@@ -57,10 +60,7 @@ fn name_at(bytes: &[u8], at: usize) -> (Kind, usize)
     ensures { IsLongest bytes.now at result.1 result.0 }
 {
     let end = word_end(bytes, at);
-    if end < bytes.len()
-        && matches!(bytes[end], b'"' | b'\'')
-        && let Some(literal) = literal_at(bytes, at, end)
-    {
+    if let Some(literal) = prefixed_literal(bytes, at, end) {
         return literal;
     }
     let kind = match keyword_of(&bytes[at..end]) {
@@ -68,6 +68,27 @@ fn name_at(bytes: &[u8], at: usize) -> (Kind, usize)
         None => Kind::Word,
     };
     (kind, end)
+}
+
+/// The kind and the end of the literal whose prefix is the run of word bytes from `from` to `end`.
+fn prefixed_literal(bytes: &[u8], from: usize, end: usize) -> Option<(Kind, usize)>
+    requires some { from < end }
+    requires within { end ≤ length bytes.now }
+    requires small { length bytes.now ≤ MAX_FILE_BYTES }
+    requires each { (i : ℕ) → from ≤ i → i < end → IsWordByte (slice_index bytes.now i) }
+    requires ends { end < length bytes.now → IsWordByte (slice_index bytes.now end) → ⊥ }
+    ensures { MatchOption result
+        ((kind : Kind) (past : ℕ) → past ≤ length bytes.now → IsLiteralKind kind →
+        Spells bytes.now from past kind → ⊥)
+        (λ literal. (end + 1 < literal.1) × IsLastLiteral bytes.now from literal.1 literal.0) }
+{
+    if end == bytes.len() {
+        return None;
+    }
+    match bytes[end] {
+        b'"' | b'\'' => literal_at(bytes, from, end),
+        _ => None,
+    }
 }
 
 /// Where the comment ends that begins at `at`, if it does.
