@@ -14,5 +14,6 @@ pub mod Comments
 pub mod Firsts
 pub mod Longest
 pub mod Steps
+pub mod OneKind
 pub mod OneReading
 pub mod SomeReading

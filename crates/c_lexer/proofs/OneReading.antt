@@ -2,13 +2,12 @@
 use Rattle.std.proofs.Common.{◌≡◌, ℕ, List, [], ◌∷◌, length, refl, ap, sym, subst, ◌∙◌, arith, inl, inr}
 use Rattle.std.proofs.lemmas.Bool.{cases_order}
 use Rattle.c_lexer.specs.Passing.{IsPassed, PassesOver, PassesAll, nothing, onward}
-use Rattle.c_lexer.specs.Spelling.{Spells}
-use Rattle.c_lexer.specs.Reading.{IsLongest, IsTokenOf, Reads, AreTokensOf, StopsAt, line_at, column_at}
+use Rattle.c_lexer.specs.Reading.{IsLongest, IsTokenOf, Reads, AreTokensOf, StopsAt}
+use Rattle.c_lexer.specs.Lines.{line_at, column_at}
 use Rattle.c_lexer.specs.declared.token.Token.{Token}
 use Rattle.c_lexer.specs.declared.token.Kind.{Kind}
-use Rattle.c_lexer.specs.declared.token.Kind.TheVariants.{Word, Key, Number, Char, Text, Mark, Line, Pragma}
-use Rattle.c_lexer.proofs.Tables.{keyword_name, keyword_once, mark_text, mark_once}
-use Rattle.c_lexer.proofs.Longest.{letter_no_digit}
+use Rattle.c_lexer.proofs.Comments.{passed_once}
+use Rattle.c_lexer.proofs.OneKind.{one_kind}
 
 -- what is passed over whole comes to one place
 passes_once : (bytes : List ℕ) {from p q : ℕ} → PassesOver bytes from p → PassesOver bytes from q → ((past : ℕ) → IsPassed bytes p past → ⊥) → ((past : ℕ) → IsPassed bytes q past → ⊥) → p ≡ q
@@ -16,38 +15,11 @@ passes_once bytes nothing nothing f g = refl
 passes_once bytes nothing (onward b r) f g = absurd (f _ b)
 passes_once bytes (onward a r) nothing f g = absurd (g _ a)
 passes_once bytes {p = p} {q = q} (onward a r) (onward b s) f g =
-    let same = b.one ∙ sym a.one in
+    let same = passed_once bytes _ _ _ b a in
     passes_once bytes r (subst (λ via. PassesOver bytes via q) same s) f g
 
 all_once : (bytes : List ℕ) (from p q : ℕ) → PassesAll bytes from p → PassesAll bytes from q → p ≡ q
 all_once bytes from p q a b = passes_once bytes a.passed b.passed a.no_more b.no_more
-
--- a part is of one kind
-one_kind : (bytes : List ℕ) (from to : ℕ) (k j : Kind) → Spells bytes from to k → Spells bytes from to j → k ≡ j
-one_kind bytes from to Word Word h g = refl
-one_kind bytes from to Word (Key j) h g = absurd (h.1 j g)
-one_kind bytes from to Word Number h g = absurd (letter_no_digit _ h.0.first (g.each 0 g.some))
-one_kind bytes from to Word (Mark j) h g = absurd ((mark_text _ j g).odd.no_letter h.0.first)
-one_kind bytes from to (Key k) Word h g = absurd (g.1 k h)
-one_kind bytes from to (Key k) (Key j) h g = ap Key (keyword_once _ k j h g)
-one_kind bytes from to (Key k) Number h g = absurd (letter_no_digit _ (keyword_name _ k h).first (g.each 0 g.some))
-one_kind bytes from to (Key k) (Mark j) h g = absurd ((mark_text _ j g).odd.no_letter (keyword_name _ k h).first)
-one_kind bytes from to Number Word h g = absurd (letter_no_digit _ g.0.first (h.each 0 h.some))
-one_kind bytes from to Number (Key j) h g = absurd (letter_no_digit _ (keyword_name _ j g).first (h.each 0 h.some))
-one_kind bytes from to Number Number h g = refl
-one_kind bytes from to Number (Mark j) h g = absurd ((mark_text _ j g).odd.no_digit (h.each 0 h.some))
-one_kind bytes from to (Mark k) Word h g = absurd ((mark_text _ k h).odd.no_letter g.0.first)
-one_kind bytes from to (Mark k) (Key j) h g = absurd ((mark_text _ k h).odd.no_letter (keyword_name _ j g).first)
-one_kind bytes from to (Mark k) Number h g = absurd ((mark_text _ k h).odd.no_digit (g.each 0 g.some))
-one_kind bytes from to (Mark k) (Mark j) h g = ap Mark (mark_once _ k j h g)
-one_kind bytes from to Char j h g = absurd h
-one_kind bytes from to Text j h g = absurd h
-one_kind bytes from to Line j h g = absurd h
-one_kind bytes from to Pragma j h g = absurd h
-one_kind bytes from to k Char h g = absurd g
-one_kind bytes from to k Text h g = absurd g
-one_kind bytes from to k Line h g = absurd g
-one_kind bytes from to k Pragma h g = absurd g
 
 -- the longest token has one end
 one_end : (bytes : List ℕ) (from p q : ℕ) (k j : Kind) → IsLongest bytes from p k → IsLongest bytes from q j → p ≡ q
@@ -69,7 +41,7 @@ one_token bytes t u e a b =
     let first = rw e at a.longest in
     let ends = one_end bytes u.start t.end u.end t.kind u.kind first b.longest in
     let part = rw ends at first.spelled in
-    same_token t u (one_kind bytes u.start u.end t.kind u.kind part b.longest.spelled) e ends (a.line ∙ (ap (line_at bytes) e ∙ sym b.line)) (a.column ∙ (ap (column_at bytes) e ∙ sym b.column))
+    same_token t u (one_kind bytes u.start u.end t.kind u.kind b.longest.some b.longest.within part b.longest.spelled) e ends (a.line ∙ (ap (line_at bytes) e ∙ sym b.line)) (a.column ∙ (ap (column_at bytes) e ∙ sym b.column))
 
 -- from a place the text is read in one way
 one_reading : (bytes : List ℕ) (from : ℕ) (ts us : List Token) (p q : ℕ) → Reads bytes from ts p → Reads bytes from us q → (ts ≡ us) × (p ≡ q)
