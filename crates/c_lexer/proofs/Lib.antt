@@ -17,3 +17,4 @@ pub mod Steps
 pub mod OneKind
 pub mod OneReading
 pub mod SomeReading
+pub mod Within

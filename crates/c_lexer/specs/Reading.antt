@@ -22,6 +22,11 @@ abbrev pub BeginsNoToken : List ℕ → ℕ → Type 0
 BeginsNoToken bytes at =
     (kind : Kind) (to : ℕ) → at < to → to ≤ length bytes → Spells bytes at to kind → ⊥
 
+-- The token's bytes stand in the text.
+pub record IsWithin (bytes : List ℕ) (token : Token) : Type 0 where
+  pub forward : token.start ≤ token.end
+  pub inside : token.end ≤ length bytes
+
 -- The token is the longest at its place, with the line and the column of that place.
 pub record IsTokenOf (bytes : List ℕ) (token : Token) : Type 0 where
   pub longest : IsLongest bytes token.start token.end token.kind

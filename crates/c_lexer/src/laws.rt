@@ -1,7 +1,8 @@
 //! Laws of the reading of a text.
 
-ghost use Rattle.std.specs.Prelude.{◌≡◌, ◌⊎◌, ℕ, List};
-ghost use Rattle.c_lexer.specs.Reading.{AreTokensOf, StopsAt};
+ghost use Rattle.std.specs.Prelude.{◌≡◌, ◌≤◌, ◌⊎◌, ℕ, List, length};
+ghost use Rattle.std.specs.List.{All};
+ghost use Rattle.c_lexer.specs.Reading.{AreTokensOf, IsWithin, StopsAt};
 ghost use Rattle.c_lexer.specs.declared.token.Token.{Token};
 
 /// A text has one reading: one list of tokens or one stop, and never both.
@@ -14,4 +15,12 @@ pub fn law_one_reading()
         StopsAt bytes first → StopsAt bytes second → first ≡ second }
     ensures never_both { (bytes : List ℕ) (tokens : List Token) (at : ℕ) →
         AreTokensOf bytes tokens → StopsAt bytes at → ⊥ }
+{}
+
+/// The tokens of a text stand in it, and it has no more of them than bytes.
+pub fn law_within_the_text()
+    ensures within { (bytes : List ℕ) (tokens : List Token) → AreTokensOf bytes tokens →
+        All (IsWithin bytes) tokens }
+    ensures few { (bytes : List ℕ) (tokens : List Token) → AreTokensOf bytes tokens →
+        length tokens ≤ length bytes }
 {}

@@ -6,5 +6,4 @@ pub mod Places
 pub mod Inward
 pub mod Outward
 pub mod Fails
-pub mod Tokens
 pub mod Differing

@@ -1,7 +1,8 @@
 //! The names of a file's functions (C11 6.9p3).
 
 ghost use Rattle.std.specs.Prelude.{◌≡◌, ◌≤◌, ◌<◌, ◌↔◌, IfOk, IsTrue, length, map, slice_range};
-ghost use Rattle.c_lexer.specs.Reading.{AreTokensOf};
+ghost use Rattle.std.specs.List.{All};
+ghost use Rattle.c_lexer.specs.Reading.{IsWithin};
 ghost use Rattle.first_grammar.specs.FirstUnit.{Differ, name_of, name_of_core};
 
 use c_lexer::Token;
@@ -16,7 +17,7 @@ pub(crate) fn function_names<'b>(
     tokens: &[Token],
     items: &[Item],
 ) -> Result<Vec<&'b [u8]>, AllocError>
-    requires { AreTokensOf bytes.now tokens.now }
+    requires { All (IsWithin bytes.now) tokens.now }
     ensures { IfOk result (λ names.
         map (λ name. name.now) names.items ≡ map (name_of bytes.entry.now tokens.now) items.now) }
 {
@@ -29,7 +30,7 @@ pub(crate) fn function_names<'b>(
 
 /// The name of a function.
 fn name_in<'b>(bytes: &'b [u8], tokens: &[Token], item: &Item) -> &'b [u8]
-    requires { AreTokensOf bytes.now tokens.now }
+    requires { All (IsWithin bytes.now) tokens.now }
     ensures { result.now ≡ name_of bytes.entry.now tokens.now item.now }
 {
     match item {
@@ -39,7 +40,7 @@ fn name_in<'b>(bytes: &'b [u8], tokens: &[Token], item: &Item) -> &'b [u8]
 
 /// The bytes of the name in a declarator, or none where there is no name.
 fn text_of_core<'b>(bytes: &'b [u8], tokens: &[Token], core: &Core) -> &'b [u8]
-    requires { AreTokensOf bytes.now tokens.now }
+    requires { All (IsWithin bytes.now) tokens.now }
     ensures { result.now ≡ name_of_core bytes.entry.now tokens.now core.now }
 {
     match core {

@@ -11,15 +11,8 @@ use Rattle.first_grammar.specs.declared.stop.GrammarStop.{GrammarStop}
 use Rattle.first_grammar.specs.declared.stop.GrammarStop.TheVariants.{Unbuilt}
 use Rattle.first_grammar.proofs.Inward.{unit_in}
 use Rattle.first_grammar.proofs.Outward.{items_out}
-use Rattle.first_grammar.proofs.Tokens.{few_tokens}
 use Rattle.first_grammar.proofs.Unique.{items_unique}
 use Rattle.first_grammar.proofs.unit.read_unit.Goals as goal
-
-pub new-requires : goal.new-requires
-new-requires c =
-    let few = few_tokens c.args.bytes.now c.args.tokens.now c.requires.tokens in
-    let small = c.requires.small in
-    omega arith
 
 pub returns-in_err-items-clause-refuses : goal.returns-in_err-items-clause-refuses
 returns-in_err-items-clause-refuses c = λ stop unit h.
