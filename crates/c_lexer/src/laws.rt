@@ -1,7 +1,8 @@
 //! Laws of the reading of a text.
 
-ghost use Rattle.std.specs.Prelude.{◌≡◌, ◌≤◌, ◌⊎◌, ℕ, List, length};
+ghost use Rattle.std.specs.Prelude.{◌≡◌, ◌≤◌, ◌⊎◌, ℕ, List, Option, length};
 ghost use Rattle.std.specs.List.{All};
+ghost use Rattle.c_lexer.specs.Directives.{IsMarkerOf};
 ghost use Rattle.c_lexer.specs.Reading.{AreTokensOf, IsWithin, StopsAt};
 ghost use Rattle.c_lexer.specs.declared.token.Token.{Token};
 
@@ -23,4 +24,11 @@ pub fn law_within_the_text()
         All (IsWithin bytes) tokens }
     ensures few { (bytes : List ℕ) (tokens : List Token) → AreTokensOf bytes tokens →
         length tokens ≤ length bytes }
+{}
+
+/// A line marker has one end, and says one line and one file.
+pub fn law_one_marker()
+    ensures { (bytes : List ℕ) (from p q l m : ℕ) (f g : Option (List ℕ)) →
+        IsMarkerOf bytes from p l f → IsMarkerOf bytes from q m g →
+        (p ≡ q) × (l ≡ m) × (f ≡ g) }
 {}
