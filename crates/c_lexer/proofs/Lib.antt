@@ -6,10 +6,12 @@ pub mod Lines
 pub mod Places
 pub mod Numbers
 pub mod Literals
+pub mod Decisions
 pub mod LiteralTests
 pub mod Marks
 pub mod LineNumbers
 pub mod Directives
+pub mod DirectiveTests
 pub mod Comments
 pub mod Firsts
 pub mod Longest
