@@ -1,12 +1,12 @@
 -- With which byte a token of a kind begins.
-use Rattle.std.proofs.Common.{◌≡◌, ℕ, ◌+◌, ◌<◌, ◌≤◌, ◌⊎◌, List, length, slice_index, slice_range, refl, inl, inr, arith}
+use Rattle.std.proofs.Common.{◌≡◌, ℕ, ◌<◌, ◌≤◌, ◌⊎◌, List, length, slice_index, slice_range, inl, inr, arith}
 use Rattle.std.proofs.lemmas.Bool.{cases_lt}
-use Rattle.c_lexer.specs.Bytes.{IsLetter, IsDigit, full_stop, number_sign, single_quote, double_quote}
+use Rattle.c_lexer.specs.Bytes.{IsLetter, number_sign, single_quote, double_quote}
 use Rattle.c_lexer.specs.Numbers.{BeginsNumber}
-use Rattle.c_lexer.specs.Spelling.{Spells, IsName, IsWord}
+use Rattle.c_lexer.specs.Spelling.{Spells, IsName}
 use Rattle.c_lexer.specs.declared.token.Kind.{Kind}
 use Rattle.c_lexer.specs.declared.token.Kind.TheVariants.{Word, Key, Number, Char, Text, Mark, Line, Pragma}
-use Rattle.c_lexer.proofs.Parts.{part_length, part_at, part_first}
+use Rattle.c_lexer.proofs.Parts.{part_first}
 use Rattle.c_lexer.proofs.Tables.{keyword_name}
 use Rattle.c_lexer.proofs.Marks.{mark_text, IsFirst}
 use Rattle.c_lexer.proofs.Literals.{IsForm, char_form, text_form, literal_before}

@@ -1,11 +1,11 @@
 -- Which token is the longest at a place.
 use Rattle.std.proofs.Common.{◌≡◌, ℕ, ◌+◌, ◌-◌, ◌<◌, ◌≤◌, ◌⊎◌, List, Option, Some, None, MatchOption, length, slice_range, slice_index, refl, arith, inl, inr}
-use Rattle.std.proofs.lemmas.Bool.{cases_lt, cases_order}
-use Rattle.c_lexer.specs.Bytes.{IsLetter, IsDigit, IsWordByte, full_stop, number_sign, single_quote, double_quote}
+use Rattle.std.proofs.lemmas.Bool.{cases_order}
+use Rattle.c_lexer.specs.Bytes.{IsLetter, IsWordByte, number_sign, single_quote, double_quote}
 use Rattle.c_lexer.specs.Lines.{OnOneLine}
-use Rattle.c_lexer.specs.Marks.{IsMarkAt, IsSecond}
+use Rattle.c_lexer.specs.Marks.{IsMarkAt}
 use Rattle.c_lexer.specs.Numbers.{BeginsNumber, IsNumber}
-use Rattle.c_lexer.specs.Spelling.{Spells, IsName, IsWord}
+use Rattle.c_lexer.specs.Spelling.{Spells, IsName}
 use Rattle.c_lexer.specs.Reading.{IsLongest, BeginsNoToken}
 use Rattle.c_lexer.specs.Scanning.{IsLiteralKind, IsLastLiteral, IsDirectiveKind, IsLastDirective}
 use Rattle.c_lexer.specs.declared.token.Kind.{Kind}
@@ -17,7 +17,7 @@ use Rattle.c_lexer.proofs.Numbers.{number_on_one_line}
 use Rattle.c_lexer.specs.Literals.{IsLiteral}
 use Rattle.c_lexer.proofs.Literals.{IsForm, char_form, text_form, literal_before, literal_on_one_line, quote_no_word_byte, spelled_literal}
 use Rattle.c_lexer.proofs.Directives.{marker_on_one_line, pragma_on_one_line}
-use Rattle.c_lexer.proofs.Firsts.{First, first_of_kind}
+use Rattle.c_lexer.proofs.Firsts.{first_of_kind}
 
 -- ---- Lines
 

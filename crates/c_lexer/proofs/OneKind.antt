@@ -1,10 +1,9 @@
 -- A part of a text is of one kind.
-use Rattle.std.proofs.Common.{◌≡◌, ℕ, ◌+◌, ◌-◌, ◌<◌, ◌≤◌, ◌⊎◌, ◌==◌, ◌&&◌, ◌||◌, Bool, true, false, List, length, slice_index, slice_range, refl, ap, sym, ◌∙◌, arith, inl, inr, if◌then◌else◌, nat_le}
+use Rattle.std.proofs.Common.{◌≡◌, ℕ, ◌+◌, ◌-◌, ◌<◌, ◌≤◌, ◌⊎◌, ◌==◌, ◌&&◌, ◌||◌, List, length, slice_index, slice_range, refl, ap, sym, ◌∙◌, arith, inl, inr, if◌then◌else◌}
 use Rattle.std.proofs.lemmas.Bool.{cases_lt}
 use Rattle.std.proofs.lemmas.Bool.Decides.{nat_tests}
 use Rattle.std.proofs.lemmas.List.{get_or_past}
 use Rattle.c_lexer.specs.Bytes.{IsLetter, IsDigit, IsWordByte, full_stop, number_sign, single_quote, double_quote}
-use Rattle.c_lexer.specs.Lines.{OnOneLine}
 use Rattle.c_lexer.specs.Spelling.{Spells, IsName}
 use Rattle.c_lexer.specs.declared.token.Kind.{Kind}
 use Rattle.c_lexer.specs.declared.token.Kind.TheVariants.{Word, Key, Number, Char, Text, Mark, Line, Pragma}
@@ -16,7 +15,7 @@ use Rattle.c_lexer.proofs.Marks.{IsFirst, IsMarkText, mark_text, mark_once}
 use Rattle.c_lexer.proofs.Numbers.{number_first, number_byte}
 use Rattle.c_lexer.proofs.Literals.{literal_last}
 use Rattle.c_lexer.proofs.Directives.{marker_no_pragma}
-use Rattle.c_lexer.proofs.Firsts.{First, first_of_kind}
+use Rattle.c_lexer.proofs.Firsts.{first_of_kind}
 
 -- The sort of a part, by its first, second and last byte: 0 a line with `#`, 1 a character constant, 2 a string
 -- literal, 3 a name, 4 a number, 5 a mark.

@@ -1,7 +1,7 @@
 -- The lines that begin with `#` in the preprocessor's output (ours, after C11 6.10.4 and 6.10.6): line
 -- markers and pragmas. Such a line is one token, from its `#` to its end.
 
-use Rattle.std.specs.Prelude.{ℕ, ◌≡◌, ◌⊎◌, ◌+◌, ◌-◌, ◌*◌, ◌<◌, ◌≤◌, List, [], ◌∷◌, Option, Some, None, codes, slice_index, slice_range}
+use Rattle.std.specs.Prelude.{ℕ, ◌≡◌, ◌+◌, ◌-◌, ◌*◌, ◌<◌, ◌≤◌, List, [], ◌∷◌, Option, Some, None, codes, slice_index, slice_range}
 use Rattle.c_lexer.specs.Bytes.{number_sign, double_quote, IsDigit}
 use Rattle.c_lexer.specs.Lines.{AreLineBlanks, OnOneLine, BeginsLine, EndsLine}
 use Rattle.c_lexer.specs.Literals.{IsQuoted}

@@ -118,11 +118,11 @@ fn stop_at(bytes: &[u8], at: usize) -> LexStop
         (n ≡ at) × LeavesOpen bytes.now at }
     ensures no_memory { result ≡ LexStop.Memory → ⊥ }
 {
-    let at_most = at as u32;
+    let place = at as u32;
     match bytes[at] {
-        b'"' => LexStop::Unclosed { at: at_most },
-        b'\'' if !is_pair(bytes, at, b'\'', b'\'') => LexStop::Unclosed { at: at_most },
-        _ => LexStop::BadByte { at: at_most },
+        b'"' => LexStop::Unclosed { at: place },
+        b'\'' if !is_pair(bytes, at, b'\'', b'\'') => LexStop::Unclosed { at: place },
+        _ => LexStop::BadByte { at: place },
     }
 }
 

@@ -1,13 +1,13 @@
 //! What a token is: its kind, its bytes and its place.
 
-/// The kind of a token. This version reads words, keywords, numbers and marks.
+/// The kind of a token.
 #[derive(Clone, Copy, Debug, PartialEq, Eq)]
 pub enum Kind {
     /// An identifier that is no keyword (6.4.2.1).
     Word,
     /// A keyword with its number, as `keyword::KEY_INT` (6.4.1).
     Key(u8),
-    /// A number (6.4.4.1).
+    /// A preprocessing number (6.4.8).
     Number,
     /// A character constant (6.4.4.4).
     Char,
@@ -15,9 +15,9 @@ pub enum Kind {
     Text,
     /// A punctuator with its number, as `mark::MARK_PLUS` (6.4.6).
     Mark(u8),
-    /// A line marker, which the preprocessor wrote.
+    /// A line marker, which the preprocessor wrote, from its `#` to the end of its line.
     Line,
-    /// A pragma, to the end of its line (6.10.6).
+    /// A pragma, from its `#` to the end of its line (6.10.6).
     Pragma,
 }
 

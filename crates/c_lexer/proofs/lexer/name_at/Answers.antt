@@ -1,4 +1,4 @@
-use Rattle.std.proofs.Common.{rules, ◌<◌, inl}
+use Rattle.std.proofs.Common.{inl}
 use Rattle.c_lexer.specs.Bytes.{IsWordByte}
 use Rattle.c_lexer.proofs.Parts.{begun}
 use Rattle.c_lexer.proofs.Longest.{longest_prefixed, longest_name, run_name}
