@@ -6,7 +6,7 @@ use Rattle.c_lexer.specs.Bytes.{line_feed, double_quote, IsDigit, IsLineBlank}
 use Rattle.c_lexer.specs.Lines.{AreLineBlanks, EndsLine, OnOneLine}
 use Rattle.c_lexer.specs.Literals.{IsQuoted}
 use Rattle.c_lexer.specs.Directives.{IsGap, IsLineNumber, IsFileName, IsFilePart, AreFlags, none, flag, IsMarkerOf, IsPragma, digits_value}
-use Rattle.c_lexer.specs.Scanning.{BeginsFlag, EndsGap, IsMarkerRest, IsLastFile, IsDirectiveKind, IsLastDirective}
+use Rattle.c_lexer.specs.Scanning.{BeginsFlag, EndsGap, IsMarkerRest, IsOnlyFile, IsDirectiveKind, IsOnlyDirective}
 use Rattle.c_lexer.specs.Spelling.{Spells}
 use Rattle.c_lexer.specs.declared.token.Kind.{Kind}
 use Rattle.c_lexer.specs.declared.token.Kind.TheVariants.{Line, Pragma}
@@ -297,7 +297,7 @@ marker_rest bytes number past to line other file t n ends =
     (t.flags, subst (λ at. IsMarkerRest bytes at t.flags to file) same.0 t.rest)
 
 -- a marker ends where no more flag begins
-pub marker_end : (bytes : List ℕ) (from flags past to end : ℕ) (file name : Option (List ℕ)) → IsMarkerRest bytes from past to file → IsLastFile bytes from flags name → AreFlags bytes flags end → (BeginsFlag bytes end → ⊥) → EndsLine bytes end
+pub marker_end : (bytes : List ℕ) (from flags past to end : ℕ) (file name : Option (List ℕ)) → IsMarkerRest bytes from past to file → IsOnlyFile bytes from flags name → AreFlags bytes flags end → (BeginsFlag bytes end → ⊥) → EndsLine bytes end
 marker_end bytes from flags past to end file name r last flagged stops =
     let within = (line_end bytes to r.ends_line).within in
     let same = last.only file past to within r in
@@ -335,7 +335,7 @@ named_rest bytes from opening past to (Some name) g quote r =
     }
 
 -- behind the closing quote it goes on, and nowhere else
-pub named_last : (bytes : List ℕ) (from opening closing : ℕ) → EndsGap bytes from opening → slice_index bytes opening ≡ double_quote → IsQuoted bytes (slice_index bytes opening) opening closing → IsLastFile bytes from (closing + 1) (Some (slice_range bytes (opening + 1) closing))
+pub named_last : (bytes : List ℕ) (from opening closing : ℕ) → EndsGap bytes from opening → slice_index bytes opening ≡ double_quote → IsQuoted bytes (slice_index bytes opening) opening closing → IsOnlyFile bytes from (closing + 1) (Some (slice_range bytes (opening + 1) closing))
 named_last bytes from opening closing g quote quoted = record {
   part = record {
     opening = opening;
@@ -357,7 +357,7 @@ nameless_rest bytes from past to None no_name r = sym r.file_part
 nameless_rest bytes from past to (Some name) no_name r = absurd (no_name r.file_part.opening r.file_part.gap r.file_part.quoted.opens)
 
 -- a pragma is the only directive at its place
-pub pragma_last : (bytes : List ℕ) (from to : ℕ) → to ≤ length bytes → IsPragma bytes from to → IsLastDirective bytes from to Pragma
+pub pragma_last : (bytes : List ℕ) (from to : ℕ) → to ≤ length bytes → IsPragma bytes from to → IsOnlyDirective bytes from to Pragma
 pragma_last bytes from to within p = record {
   is = inr refl;
   within = within;
@@ -369,7 +369,7 @@ pragma_last bytes from to within p = record {
 }
 
 -- so is a line marker
-pub marker_last : (bytes : List ℕ) (from to line : ℕ) (file : Option (List ℕ)) → to ≤ length bytes → IsMarkerOf bytes from to line file → IsLastDirective bytes from to Line
+pub marker_last : (bytes : List ℕ) (from to line : ℕ) (file : Option (List ℕ)) → to ≤ length bytes → IsMarkerOf bytes from to line file → IsOnlyDirective bytes from to Line
 marker_last bytes from to line file within m = record {
   is = inl refl;
   within = within;

@@ -6,7 +6,7 @@ use Rattle.std.proofs.lemmas.List.{get_or_past}
 use Rattle.c_lexer.specs.Bytes.{line_feed, backslash, single_quote, double_quote, IsLetter, IsWordByte}
 use Rattle.c_lexer.specs.Lines.{OnOneLine}
 use Rattle.c_lexer.specs.Literals.{IsPlain, AreCharacters, none, plain, escaped, IsQuoted, char_prefixes, text_prefixes, IsLiteral, IsChar, IsText}
-use Rattle.c_lexer.specs.Scanning.{IsLiteralKind, IsLastLiteral}
+use Rattle.c_lexer.specs.Scanning.{IsLiteralKind, IsOnlyLiteral}
 use Rattle.c_lexer.specs.Spelling.{Spells}
 use Rattle.c_lexer.specs.declared.token.Kind.{Kind}
 use Rattle.c_lexer.specs.declared.token.Kind.TheVariants.{Word, Key, Number, Char, Text, Mark, Line, Pragma}
@@ -343,7 +343,7 @@ char_opened bytes from opening to kind o q k s =
     ]
 
 -- such a string literal is the only one there
-pub text_last : (bytes : List ℕ) (from opening closing : ℕ) → Opens bytes from opening → slice_index bytes opening ≡ double_quote → Contains text_prefixes (slice_range bytes from opening) → closing < length bytes → IsQuoted bytes double_quote opening closing → IsLastLiteral bytes from (closing + 1) Text
+pub text_last : (bytes : List ℕ) (from opening closing : ℕ) → Opens bytes from opening → slice_index bytes opening ≡ double_quote → Contains text_prefixes (slice_range bytes from opening) → closing < length bytes → IsQuoted bytes double_quote opening closing → IsOnlyLiteral bytes from (closing + 1) Text
 text_last bytes from opening closing o q p l h = record {
   is = inr refl;
   within = omega arith;
@@ -356,7 +356,7 @@ text_last bytes from opening closing o q p l h = record {
 }
 
 -- and so is such a character constant
-pub char_last : (bytes : List ℕ) (from opening closing : ℕ) → Opens bytes from opening → slice_index bytes opening ≡ single_quote → Contains char_prefixes (slice_range bytes from opening) → closing < length bytes → opening + 1 < closing → IsQuoted bytes single_quote opening closing → IsLastLiteral bytes from (closing + 1) Char
+pub char_last : (bytes : List ℕ) (from opening closing : ℕ) → Opens bytes from opening → slice_index bytes opening ≡ single_quote → Contains char_prefixes (slice_range bytes from opening) → closing < length bytes → opening + 1 < closing → IsQuoted bytes single_quote opening closing → IsOnlyLiteral bytes from (closing + 1) Char
 char_last bytes from opening closing o q p l some h = record {
   is = inl refl;
   within = omega arith;

@@ -7,7 +7,7 @@ use Rattle.c_lexer.specs.Marks.{IsMarkAt}
 use Rattle.c_lexer.specs.Numbers.{BeginsNumber, IsNumber}
 use Rattle.c_lexer.specs.Spelling.{Spells, IsName}
 use Rattle.c_lexer.specs.Reading.{IsLongest, BeginsNoToken}
-use Rattle.c_lexer.specs.Scanning.{IsLiteralKind, IsLastLiteral, IsDirectiveKind, IsLastDirective}
+use Rattle.c_lexer.specs.Scanning.{IsLiteralKind, IsOnlyLiteral, IsDirectiveKind, IsOnlyDirective}
 use Rattle.c_lexer.specs.declared.token.Kind.{Kind}
 use Rattle.c_lexer.specs.declared.token.Kind.TheVariants.{Word, Key, Number, Char, Text, Mark, Line, Pragma}
 use Rattle.c_lexer.proofs.Parts.{part_length, part_at, part_first}
@@ -92,7 +92,7 @@ no_prefixed bytes from n some each ends none kind past is s = elim (spelled_lite
 -- ---- Tokens by their first byte
 
 -- a literal that begins with a letter is the longest token there
-pub longest_prefixed : (bytes : List ℕ) (from n to : ℕ) (kind : Kind) → IsLetter (slice_index bytes from) → from < n → (n < length bytes → IsWordByte (slice_index bytes n) → ⊥) → n + 1 < to → IsLastLiteral bytes from to kind → IsLongest bytes from to kind
+pub longest_prefixed : (bytes : List ℕ) (from n to : ℕ) (kind : Kind) → IsLetter (slice_index bytes from) → from < n → (n < length bytes → IsWordByte (slice_index bytes n) → ⊥) → n + 1 < to → IsOnlyLiteral bytes from to kind → IsLongest bytes from to kind
 longest_prefixed bytes from n to kind letter forward ends behind h =
     longest_at_letter bytes from to n letter (omega arith) (omega arith) ends (λ other past a b is s. let same = h.only other past b is s in omega arith) kind (omega arith) h.within h.spelled
 
@@ -142,7 +142,7 @@ at_quote bytes from quote Line past h w t = let f = first_of_kind bytes from pas
 at_quote bytes from quote Pragma past h w t = let f = first_of_kind bytes from past Pragma h w t in absurd (grind arith)
 
 -- what stands at a quote is the literal that was found
-pub quoted_token : (bytes : List ℕ) (from : ℕ) (found : Option (Kind × ℕ)) → (slice_index bytes from ≡ single_quote) ⊎ (slice_index bytes from ≡ double_quote) → MatchOption found ((kind : Kind) (past : ℕ) → past ≤ length bytes → IsLiteralKind kind → Spells bytes from past kind → ⊥) (λ t. (from + 1 < t.1) × IsLastLiteral bytes from t.1 t.0) → MatchOption found (BeginsNoToken bytes from) (λ t. IsLongest bytes from t.1 t.0)
+pub quoted_token : (bytes : List ℕ) (from : ℕ) (found : Option (Kind × ℕ)) → (slice_index bytes from ≡ single_quote) ⊎ (slice_index bytes from ≡ double_quote) → MatchOption found ((kind : Kind) (past : ℕ) → past ≤ length bytes → IsLiteralKind kind → Spells bytes from past kind → ⊥) (λ t. (from + 1 < t.1) × IsOnlyLiteral bytes from t.1 t.0) → MatchOption found (BeginsNoToken bytes from) (λ t. IsLongest bytes from t.1 t.0)
 quoted_token bytes from None quote none = λ kind past h w s. none kind past w (at_quote bytes from quote kind past h w s) s
 quoted_token bytes from (Some t) quote (some, last) = record {
   some = omega arith;
@@ -163,7 +163,7 @@ at_sign bytes from sign Line past h w t = inl refl
 at_sign bytes from sign Pragma past h w t = inr refl
 
 -- what stands at a `#` is the line that was found
-pub signed_token : (bytes : List ℕ) (from : ℕ) (found : Option (Kind × ℕ)) → slice_index bytes from ≡ number_sign → MatchOption found ((kind : Kind) (past : ℕ) → past ≤ length bytes → IsDirectiveKind kind → Spells bytes from past kind → ⊥) (λ t. (from < t.1) × IsLastDirective bytes from t.1 t.0) → MatchOption found (BeginsNoToken bytes from) (λ t. IsLongest bytes from t.1 t.0)
+pub signed_token : (bytes : List ℕ) (from : ℕ) (found : Option (Kind × ℕ)) → slice_index bytes from ≡ number_sign → MatchOption found ((kind : Kind) (past : ℕ) → past ≤ length bytes → IsDirectiveKind kind → Spells bytes from past kind → ⊥) (λ t. (from < t.1) × IsOnlyDirective bytes from t.1 t.0) → MatchOption found (BeginsNoToken bytes from) (λ t. IsLongest bytes from t.1 t.0)
 signed_token bytes from None sign none = λ kind past h w s. none kind past w (at_sign bytes from sign kind past h w s) s
 signed_token bytes from (Some t) sign (some, last) = record {
   some = some;

@@ -9,7 +9,7 @@ use Rattle.c_lexer.specs.Numbers.{BeginsNumber, FollowsExponent, IsNumberByte, I
 pub number_first : (bytes : List ℕ) (from to : ℕ) → IsNumber bytes from to → from < to → IsDigit (slice_index bytes from) ⊎ ((slice_index bytes from ≡ full_stop) × (from + 1 < to) × IsDigit (slice_index bytes (from + 1)))
 number_first bytes from to h some = elim h.begins [
   | inl digit ↦ inl digit
-  | inr stop ↦ inr (stop.0, h.no_stop stop.0, stop.1)
+  | inr stop ↦ inr (stop.0, h.not_alone stop.0, stop.1)
 ]
 
 -- a byte of a number is no quote, no line feed, no other blank and no `#`
@@ -118,10 +118,10 @@ number_or_not bytes from to some =
     elim (begins_or_not bytes from) [
       | inl begins ↦ elim (stop_or_not (slice_index bytes from) from to) [
         | inl stop ↦ elim (bytes_or_not bytes from (to - from)) [
-          | inl each ↦ inl (record { begins = begins; no_stop = stop; each = λ i low high. each i low (omega arith) })
+          | inl each ↦ inl (record { begins = begins; not_alone = stop; each = λ i low high. each i low (omega arith) })
           | inr other ↦ inr (λ h. other (λ i low high. h.each i low (omega arith)))
         ]
-        | inr alone ↦ inr (λ h. alone h.no_stop)
+        | inr alone ↦ inr (λ h. alone h.not_alone)
       ]
       | inr other ↦ inr (λ h. other h.begins)
     ]

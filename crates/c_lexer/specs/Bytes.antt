@@ -37,8 +37,8 @@ backslash = 92
 
 -- ---- Classes
 
--- Space, or one of tab, line feed, vertical tab, form feed and carriage return, which are 9 to 13
--- (6.4p3).
+-- Space, or one of tab, line feed, vertical tab and form feed (6.4p3), or, ours, carriage return: they
+-- are 9 to 13.
 abbrev pub IsBlank : ℕ → Type 0
 IsBlank byte = (byte ≡ 32) ⊎ ((9 ≤ byte) × (byte ≤ 13))
 

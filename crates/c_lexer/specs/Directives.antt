@@ -47,8 +47,8 @@ pub data AreFlags (bytes : List ℕ) : ℕ → ℕ → Type 0 where
   flag : {from digit to : ℕ} → IsGap bytes from digit → 49 ≤ slice_index bytes digit →
       slice_index bytes digit ≤ 52 → AreFlags bytes (digit + 1) to → AreFlags bytes from to
 
--- Between the places stands a line marker: it says that the next line is this one, and of this file if
--- it names one.
+-- Between the places stands a line marker: it says that the next line has this number, and is of this
+-- file if it names one.
 pub record IsMarkerOf (bytes : List ℕ) (from to line : ℕ) (file : Option (List ℕ)) : Type 0 where
   pub begins_line : BeginsLine bytes from
   pub sign : slice_index bytes from ≡ number_sign
@@ -65,7 +65,7 @@ abbrev pub IsLineMarker : List ℕ → ℕ → ℕ → Type 0
 IsLineMarker bytes from to = (line : ℕ) × (file : Option (List ℕ)) × IsMarkerOf bytes from to line file
 
 -- Between the places stands a pragma: `#`, blanks if there are any, `pragma`, and any bytes to the end
--- of the line (6.10.6).
+-- of the line (6.10.6). Ours: `pragma` need not be a whole word.
 pub record IsPragma (bytes : List ℕ) (from to : ℕ) : Type 0 where
   pub begins_line : BeginsLine bytes from
   pub sign : slice_index bytes from ≡ number_sign

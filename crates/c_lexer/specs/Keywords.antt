@@ -3,9 +3,9 @@
 use Rattle.std.specs.Prelude.{ℕ, List, [], ◌∷◌, codes}
 use Rattle.std.specs.List.{Contains}
 
--- The keywords of C11, and after `_Thread_local` ours: those that compilers add to system headers.
--- A keyword's number is its place in this list, from 0. An alternative spelling has the number of the
--- keyword that it stands for.
+-- The keywords of C11, and after `_Thread_local` ours: some that system headers use. A keyword's number
+-- is its place in this list, from 0. An alternative spelling has the number of the keyword that it
+-- stands for.
 unfoldable pub keywords : List (List ℕ × ℕ)
 keywords =
     (codes "auto", 0) ∷ (codes "break", 1) ∷ (codes "case", 2) ∷

@@ -5,6 +5,7 @@ pub mod Numbers
 pub mod Literals
 pub mod Comments
 pub mod Marks
+pub mod Names
 pub mod Directives
 pub mod Spelling
 pub mod Passing

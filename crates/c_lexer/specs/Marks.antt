@@ -5,8 +5,9 @@ use Rattle.std.specs.List.{Contains}
 use Rattle.c_lexer.specs.Bytes.{percent_sign, colon}
 use Rattle.c_lexer.specs.Comments.{IsPair, BeginsComment}
 
--- The marks of C11 but `#` and `##`, which the preprocessor leaves in none of its text, each with its
--- place in this list. A digraph (p3), at the end, has the number of the mark that it stands for.
+-- The marks of C11 (p1) but `#`, `##` and their digraphs, each with its number, which is its place in
+-- this list. A digraph (p3), at the end, has the number of the mark that it stands for. Ours: `#` and
+-- `##` begin no token, for the preprocessor has done with them.
 unfoldable pub marks : List (List ℕ × ℕ)
 marks =
     (codes "[", 0) ∷ (codes "]", 1) ∷ (codes "(", 2) ∷ (codes ")", 3) ∷ (codes "{", 4) ∷

@@ -1,4 +1,5 @@
 -- Preprocessing numbers (C11 6.4.8): what any number looks like, before it is known whether it is one.
+-- Ours: universal character names are not read.
 
 use Rattle.std.specs.Prelude.{ℕ, ◌≡◌, ◌⊎◌, ◌+◌, ◌<◌, ◌≤◌, List, slice_index}
 use Rattle.c_lexer.specs.Bytes.{full_stop, IsDigit, IsWordByte, IsExponent, IsSign}
@@ -24,8 +25,8 @@ IsNumberByte bytes from at =
     ⊎ (slice_index bytes at ≡ full_stop)
     ⊎ (IsSign (slice_index bytes at) × FollowsExponent bytes from at)
 
--- A number stands between the places. A `.` alone is none.
+-- A number stands between the places. A `.` alone is none, though `begins` looks at the byte behind it.
 pub record IsNumber (bytes : List ℕ) (from to : ℕ) : Type 0 where
   pub begins : BeginsNumber bytes from
-  pub no_stop : slice_index bytes from ≡ full_stop → from + 1 < to
+  pub not_alone : slice_index bytes from ≡ full_stop → from + 1 < to
   pub each : (i : ℕ) → from ≤ i → i < to → IsNumberByte bytes from i

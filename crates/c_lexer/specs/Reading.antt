@@ -50,8 +50,8 @@ pub record StopsAt (bytes : List ℕ) (at : ℕ) : Type 0 where
   pub tokens : List Token
   pub reads : Reads bytes 0 tokens at
 
--- What begins at the place would end where a `*/` or a quote stands. A `'` of which the character is
--- missing, as in `''`, is no such beginning.
+-- A block comment, a string literal or a character constant begins at the place. Where the reading stops
+-- there, it does not end. At `''` none begins: its character is missing.
 abbrev pub LeavesOpen : List ℕ → ℕ → Type 0
 LeavesOpen bytes at =
     IsPair bytes at slash asterisk

@@ -1,4 +1,4 @@
--- What the parts of the lexer find at a place.
+-- What the parts of the lexer find at a position.
 
 use Rattle.std.specs.Prelude.{ℕ, ◌≡◌, ◌⊎◌, ◌<◌, ◌≤◌, List, Option, Some, None, length, slice_index}
 use Rattle.std.specs.Borrow.{Bor}
@@ -18,7 +18,7 @@ abbrev pub IsDirectiveKind : Kind → Type 0
 IsDirectiveKind kind = (kind ≡ Line) ⊎ (kind ≡ Pragma)
 
 -- The literal stands between the places, and no other begins there.
-pub record IsLastLiteral (bytes : List ℕ) (from to : ℕ) (kind : Kind) : Type 0 where
+pub record IsOnlyLiteral (bytes : List ℕ) (from to : ℕ) (kind : Kind) : Type 0 where
   pub is : IsLiteralKind kind
   pub within : to ≤ length bytes
   pub spelled : Spells bytes from to kind
@@ -26,7 +26,7 @@ pub record IsLastLiteral (bytes : List ℕ) (from to : ℕ) (kind : Kind) : Type
       Spells bytes from past other → past ≡ to
 
 -- The same, of a line that begins with `#`.
-pub record IsLastDirective (bytes : List ℕ) (from to : ℕ) (kind : Kind) : Type 0 where
+pub record IsOnlyDirective (bytes : List ℕ) (from to : ℕ) (kind : Kind) : Type 0 where
   pub is : IsDirectiveKind kind
   pub within : to ≤ length bytes
   pub spelled : Spells bytes from to kind
@@ -54,7 +54,7 @@ pub record IsMarkerRest (bytes : List ℕ) (from flags to : ℕ) (file : Option 
   pub ends_line : EndsLine bytes to
 
 -- The file's name, or its lack, is the one with which a marker may go on.
-pub record IsLastFile (bytes : List ℕ) (from flags : ℕ) (file : Option (List ℕ)) : Type 0 where
+pub record IsOnlyFile (bytes : List ℕ) (from flags : ℕ) (file : Option (List ℕ)) : Type 0 where
   pub part : IsFilePart bytes from flags file
   pub only : (other : Option (List ℕ)) (past to : ℕ) → to ≤ length bytes →
       IsMarkerRest bytes from past to other → past ≡ flags
@@ -67,10 +67,10 @@ name_of (Some name) = Some name.now
 abbrev pub file_of : Marker → Option (List ℕ)
 file_of marker = name_of marker.file
 
--- A text and a place in it.
-pub record Place : Type 0 where
+-- A text and a position in it.
+pub record Position : Type 0 where
   pub bytes : List ℕ
   pub at : ℕ
 
-abbrev pub place : List ℕ → ℕ → Place
-place bytes at = record { bytes = bytes; at = at }
+abbrev pub position : List ℕ → ℕ → Position
+position bytes at = record { bytes = bytes; at = at }

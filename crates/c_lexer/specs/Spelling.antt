@@ -11,7 +11,8 @@ use Rattle.c_lexer.specs.Literals.{IsChar, IsText}
 use Rattle.c_lexer.specs.Marks.{IsMarkAt}
 use Rattle.c_lexer.specs.Directives.{IsLineMarker, IsPragma}
 
--- A letter or `_`, and then letters, digits and `_` (6.4.2.1).
+-- A letter or `_`, and then letters, digits and `_` (6.4.2.1). Ours: universal character names are not
+-- read.
 pub record IsName (text : List ℕ) : Type 0 where
   pub some : 0 < length text
   pub first : IsLetter (slice_index text 0)

@@ -1,14 +1,14 @@
-//! A place in a text, with its line and its column.
+//! A position in a text, with its line and its column.
 
 ghost use Rattle.std.specs.Prelude.{◌≡◌, ◌+◌, ◌<◌, ◌≤◌, length, slice_index, MatchOption};
 ghost use Rattle.c_lexer.specs.Reading.{IsLongest, IsTokenOf};
-ghost use Rattle.c_lexer.specs.Scanning.{place};
+ghost use Rattle.c_lexer.specs.Scanning.{position};
 
 use crate::lexer::MAX_FILE_BYTES;
 use crate::token::{Kind, Token};
 use std::marker::Model;
 
-/// A place in a text. Contracts see the text and the place. The line is always that of the place, and
+/// A position in a text. Contracts see the text and the position. The line is always that of the position, and
 /// begins at `line_start`.
 #[derive(Drop)]
 pub(crate) struct Cursor<'b> {
@@ -22,12 +22,12 @@ impl<'b> Model for Cursor<'b> {
     ghost use Rattle.std.specs.Prelude.{◌≡◌, ◌+◌, ◌-◌, ◌<◌, ◌≤◌, length, slice_index};
     ghost use Rattle.c_lexer.specs.Bytes.{line_feed};
     ghost use Rattle.c_lexer.specs.Lines.{OnOneLine, line_at};
-    ghost use Rattle.c_lexer.specs.Scanning.{Place, place};
+    ghost use Rattle.c_lexer.specs.Scanning.{Position, position};
     ghost use Rattle.c_lexer.specs.declared.lexer.TheConstants.{MAX_FILE_BYTES};
 
-    ghost Value = { Place };
+    ghost Value = { Position };
 
-    ghost view = { λ c. place c.bytes.now c.at };
+    ghost view = { λ c. position c.bytes.now c.at };
 
     ghost invariant = { λ c. (length c.bytes.now ≤ MAX_FILE_BYTES)
         × (c.at ≤ length c.bytes.now)
@@ -42,7 +42,7 @@ impl<'b> Cursor<'b> {
     /// The beginning of a text.
     pub fn new(bytes: &'b [u8]) -> Cursor<'b>
         requires { length bytes.now ≤ MAX_FILE_BYTES }
-        ensures { result ≡ place bytes.entry.now 0 }
+        ensures { result ≡ position bytes.entry.now 0 }
     {
         Cursor {
             bytes,
@@ -52,14 +52,14 @@ impl<'b> Cursor<'b> {
         }
     }
 
-    /// The place, in bytes from the beginning.
+    /// The position, in bytes from the beginning.
     pub fn at(&self) -> usize
         ensures { result ≡ self.now.at }
     {
         self.at
     }
 
-    /// The byte at the place, if it is not the end.
+    /// The byte at the position, if it is not the end.
     pub fn byte(&self) -> Option<u8>
         ensures { MatchOption result
             (self.now.at ≡ length self.now.bytes)
@@ -72,7 +72,7 @@ impl<'b> Cursor<'b> {
     /// Goes past one byte.
     pub fn step(&mut self)
         requires { self.old.at < length self.old.bytes }
-        ensures { self.new ≡ place self.old.bytes (self.old.at + 1) }
+        ensures { self.new ≡ position self.old.bytes (self.old.at + 1) }
     {
         let byte = self.bytes[self.at];
         self.at += 1;
@@ -86,20 +86,20 @@ impl<'b> Cursor<'b> {
     pub fn pass_to(&mut self, end: usize)
         requires forward { self.old.at ≤ end }
         requires within { end ≤ length self.old.bytes }
-        ensures { self.new ≡ place self.old.bytes end }
+        ensures { self.new ≡ position self.old.bytes end }
     {
         while self.at < end {
             self.step();
         }
     }
 
-    /// Takes the token that begins at the place.
+    /// Takes the token that begins at the position.
     pub fn take(&mut self, kind: Kind, end: usize) -> Token
         requires { IsLongest self.old.bytes self.old.at end kind }
         ensures token { IsTokenOf self.old.bytes result }
         ensures start { result.start ≡ self.old.at }
         ensures end { result.end ≡ end }
-        ensures place { self.new ≡ place self.old.bytes end }
+        ensures position { self.new ≡ position self.old.bytes end }
     {
         let token = Token {
             kind,

@@ -4,7 +4,7 @@ ghost use Rattle.std.specs.Prelude.{ℕ, ◌≡◌, ◌<◌, ◌≤◌, length, 
 ghost use Rattle.c_lexer.specs.Bytes.{number_sign};
 ghost use Rattle.c_lexer.specs.Lines.{BeginsLine};
 ghost use Rattle.c_lexer.specs.Directives.{IsPragma};
-ghost use Rattle.c_lexer.specs.Scanning.{IsDirectiveKind, IsLastDirective};
+ghost use Rattle.c_lexer.specs.Scanning.{IsDirectiveKind, IsOnlyDirective};
 ghost use Rattle.c_lexer.specs.Spelling.{Spells};
 ghost use Rattle.c_lexer.specs.declared.token.Kind.{Kind};
 
@@ -21,7 +21,7 @@ pub(crate) fn directive_at(bytes: &[u8], at: usize) -> Option<(Kind, usize)>
     ensures { MatchOption result
         ((kind : Kind) (past : ℕ) → past ≤ length bytes.now → IsDirectiveKind kind →
         Spells bytes.now at past kind → ⊥)
-        (λ line. (at < line.1) × IsLastDirective bytes.now at line.1 line.0) }
+        (λ line. (at < line.1) × IsOnlyDirective bytes.now at line.1 line.0) }
 {
     if !begins_line(bytes, at) {
         return None;

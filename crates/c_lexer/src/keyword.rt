@@ -1,4 +1,4 @@
-//! Keywords (C11 6.4.1), with those that compilers add to system headers.
+//! Keywords (C11 6.4.1), with some that system headers use.
 //!
 //! A keyword's number is its place in the table. An alternative spelling has the number of the
 //! keyword that it stands for, and no constant.
@@ -115,6 +115,7 @@ pub const KEY_EXTENSION: u8 = 58;
 pub const KEY_ASM: u8 = 59;
 
 pub const KEY_INT128: u8 = 65;
+
 /// The keywords with their numbers.
 static KEYWORDS: [(&[u8], u8); 66] = [
     (b"auto", KEY_AUTO),

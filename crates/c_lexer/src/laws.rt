@@ -3,6 +3,9 @@
 ghost use Rattle.std.specs.Prelude.{◌≡◌, ◌≤◌, ◌⊎◌, ℕ, List, Option, length};
 ghost use Rattle.std.specs.List.{All};
 ghost use Rattle.c_lexer.specs.Directives.{IsMarkerOf};
+ghost use Rattle.c_lexer.specs.Keywords.{keywords};
+ghost use Rattle.c_lexer.specs.Marks.{marks};
+ghost use Rattle.c_lexer.specs.Names.{named_keywords, named_marks};
 ghost use Rattle.c_lexer.specs.Reading.{AreTokensOf, IsWithin, StopsAt};
 ghost use Rattle.c_lexer.specs.declared.token.Token.{Token};
 
@@ -31,4 +34,10 @@ pub fn law_one_marker()
     ensures { (bytes : List ℕ) (from p q l m : ℕ) (f g : Option (List ℕ)) →
         IsMarkerOf bytes from p l f → IsMarkerOf bytes from q m g →
         (p ≡ q) × (l ≡ m) × (f ≡ g) }
+{}
+
+/// The constants of `keyword` and of `mark` name the numbers of these spellings.
+pub fn law_names()
+    ensures keywords { named_keywords ≡ keywords }
+    ensures marks { named_marks ≡ marks }
 {}

@@ -1,11 +1,11 @@
 //! The entry: from the bytes of a file to its tokens.
 
-ghost use Rattle.std.specs.Prelude.{◌≡◌, ◌+◌, ℕ, List, ◌<◌, ◌≤◌, length, slice_index, IfOk, IsErrOf, IsOkUnless, MatchOption};
+ghost use Rattle.std.specs.Prelude.{◌≡◌, ◌+◌, ℕ, List, ◌<◌, ◌≤◌, length, slice_index, IfOk, IsErr, IsErrOf, IsOkUnless, MatchOption};
 ghost use Rattle.c_lexer.specs.Bytes.{IsLetter, IsWordByte, asterisk, slash};
 ghost use Rattle.c_lexer.specs.Comments.{BeginsComment, IsPair};
 ghost use Rattle.c_lexer.specs.Passing.{IsPassed};
 ghost use Rattle.c_lexer.specs.Reading.{AreTokensOf, BeginsNoToken, IsLongest, LeavesOpen, StopsAt};
-ghost use Rattle.c_lexer.specs.Scanning.{IsLastLiteral, IsLiteralKind};
+ghost use Rattle.c_lexer.specs.Scanning.{IsOnlyLiteral, IsLiteralKind};
 ghost use Rattle.c_lexer.specs.Spelling.{Spells};
 ghost use Rattle.c_lexer.specs.declared.token.Kind.{Kind};
 ghost use Rattle.c_lexer.specs.declared.token.Token.{Token};
@@ -80,7 +80,7 @@ fn prefixed_literal(bytes: &[u8], from: usize, end: usize) -> Option<(Kind, usiz
     ensures { MatchOption result
         ((kind : Kind) (past : ℕ) → past ≤ length bytes.now → IsLiteralKind kind →
         Spells bytes.now from past kind → ⊥)
-        (λ literal. (end + 1 < literal.1) × IsLastLiteral bytes.now from literal.1 literal.0) }
+        (λ literal. (end + 1 < literal.1) × IsOnlyLiteral bytes.now from literal.1 literal.0) }
 {
     if end == bytes.len() {
         return None;
@@ -139,6 +139,7 @@ pub fn lex(alloc: Global, bytes: &[u8]) -> Result<Vec<Token>, LexStop>
         StopsAt bytes.now at × (LeavesOpen bytes.now at → ⊥) }
     ensures unclosed { (at : ℕ) → IsErrOf result (LexStop.Unclosed at) →
         StopsAt bytes.now at × LeavesOpen bytes.now at }
+    ensures refuses { (at : ℕ) → StopsAt bytes.now at → IsErr result }
     ensures accepts { (tokens : List Token) → AreTokensOf bytes.now tokens →
         IsOkUnless result LexStop.Memory }
 {

@@ -4,7 +4,7 @@ ghost use Rattle.std.specs.Prelude.{ℕ, ◌≡◌, ◌+◌, ◌<◌, ◌≤◌,
 ghost use Rattle.std.specs.List.{Contains};
 ghost use Rattle.c_lexer.specs.Bytes.{IsWordByte, double_quote, single_quote};
 ghost use Rattle.c_lexer.specs.Literals.{IsQuoted, char_prefixes, text_prefixes};
-ghost use Rattle.c_lexer.specs.Scanning.{IsLastLiteral, IsLiteralKind};
+ghost use Rattle.c_lexer.specs.Scanning.{IsOnlyLiteral, IsLiteralKind};
 ghost use Rattle.c_lexer.specs.Spelling.{Spells};
 ghost use Rattle.c_lexer.specs.declared.token.Kind.{Kind};
 
@@ -69,7 +69,7 @@ pub(crate) fn literal_at(bytes: &[u8], from: usize, opening: usize) -> Option<(K
     ensures { MatchOption result
         ((kind : Kind) (past : ℕ) → past ≤ length bytes.now → IsLiteralKind kind →
         Spells bytes.now from past kind → ⊥)
-        (λ literal. (opening + 1 < literal.1) × IsLastLiteral bytes.now from literal.1 literal.0) }
+        (λ literal. (opening + 1 < literal.1) × IsOnlyLiteral bytes.now from literal.1 literal.0) }
 {
     let prefix = &bytes[from..opening];
     if bytes[opening] == b'"' {

@@ -180,7 +180,7 @@ fn mark_of(text: &[u8]) -> Option<u8>
     look_up(&MARKS, &PLACES, text)
 }
 
-/// The number and the end of the longest mark at `at`, where neither a comment nor a `%:` begins.
+/// The number and the end of the longest mark of the table at `at`.
 fn longest_mark(bytes: &[u8], at: usize) -> Option<(u8, usize)>
     requires inside { at < length bytes.now }
     requires small { length bytes.now ≤ MAX_FILE_BYTES }

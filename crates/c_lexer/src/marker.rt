@@ -4,7 +4,7 @@ ghost use Rattle.std.specs.Prelude.{ℕ, ◌≡◌, ◌<◌, ◌≤◌, List, Op
 ghost use Rattle.c_lexer.specs.Bytes.{IsDigit, IsLineBlank, number_sign};
 ghost use Rattle.c_lexer.specs.Lines.{BeginsLine};
 ghost use Rattle.c_lexer.specs.Directives.{AreFlags, IsGap, IsLineMarker, IsLineNumber, IsMarkerOf};
-ghost use Rattle.c_lexer.specs.Scanning.{BeginsFlag, EndsGap, IsLastFile, IsMarkerRest, file_of, name_of};
+ghost use Rattle.c_lexer.specs.Scanning.{BeginsFlag, EndsGap, IsOnlyFile, IsMarkerRest, file_of, name_of};
 
 use crate::byte_class::is_digit;
 use crate::lexer::MAX_FILE_BYTES;
@@ -34,6 +34,7 @@ pub fn marker_of<'b>(bytes: &'b [u8], token: &Token) -> Marker<'b>
 {
     match marker_at(bytes, token.start as usize) {
         Some((marker, _)) => marker,
+        // Never reached: the token is a marker.
         None => Marker {
             line: 0,
             file: None,
@@ -109,7 +110,7 @@ fn file_part<'b>(bytes: &'b [u8], from: usize) -> Option<(Option<&'b [u8]>, usiz
         ((file : Option (List ℕ)) (past to : ℕ) → to ≤ length bytes.entry.now →
         IsMarkerRest bytes.entry.now from past to file → ⊥)
         (λ part. (part.1 ≤ length bytes.entry.now)
-        × IsLastFile bytes.entry.now from part.1 (name_of part.0)) }
+        × IsOnlyFile bytes.entry.now from part.1 (name_of part.0)) }
 {
     match gap_end(bytes, from) {
         Some(opening) if opening < bytes.len() && bytes[opening] == b'"' => {

@@ -282,6 +282,21 @@ fn each_other_form_is_one_token_of_its_kind(rt: HostRuntime) -> Result<(), LexSt
     Ok(())
 }
 
+#[test]
+fn a_long_text_has_all_its_tokens(rt: HostRuntime) -> Result<(), LexStop> {
+    let mut text = Vec::new(rt.alloc());
+    for _ in 0..5000 {
+        for byte in b"x=1;\n" {
+            text.push(*byte)?;
+        }
+    }
+    assert!(rt; text.len() < 30000);
+    let tokens = lex(rt.alloc(), &text)?;
+    assert_eq!(rt; tokens.len(), 20000);
+    assert_eq!(rt; tokens[19_999].line, 5000);
+    Ok(())
+}
+
 // Near misses of longer tokens: each text is two tokens, which meet at the place.
 #[test]
 fn where_a_longer_token_is_missed_two_shorter_ones_stand(rt: HostRuntime) -> Result<(), LexStop> {

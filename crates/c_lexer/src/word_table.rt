@@ -4,8 +4,8 @@ ghost use Rattle.std.specs.Prelude.{ℕ, ◌<◌, ◌^◌, length, IsTrue, Match
 ghost use Rattle.std.specs.List.{Contains, list_all};
 ghost use Rattle.c_lexer.specs.WordTable.{are_placed, rows_of};
 
-/// The number of a word in a table, whose rows stand at `places` by a sum over their words that is
-/// different for each.
+/// The number of a word in a table. `places` holds, at the slot of each of its words, the place of the
+/// word's row.
 pub fn look_up(table: &[(&[u8], u8)], places: &[u8; 256], word: &[u8]) -> Option<u8>
     requires some { 0 < length word.now }
     requires short { length word.now < 2 ^ 32 }

@@ -37,10 +37,10 @@ loop-first-preserved c =
     let none : (to : ℕ) → IsPassed b token.start to → ⊥ = rw (c.take.ensures.start, ← c.at-at.ensures) (none_passed b c.at-at.result (search rules) (search rules)) in
     let is : IsTokenOf b token = rw i.text at c.take.ensures.token in
     record {
-      text = rw c.take.ensures.place i.text;
-      inside = rw (c.take.ensures.place, ← c.take.ensures.end) is.longest.within;
+      text = rw c.take.ensures.position i.text;
+      inside = rw (c.take.ensures.position, ← c.take.ensures.end) is.longest.within;
       reads = λ rest stop h. rw (c.in_ok-push-in-Some-token_at.ensures.items, append_assoc)
-          (i.reads (token ∷ rest) stop (rw (← c.take.ensures.start) (reads_token b token rest stop none is (rw (c.take.ensures.place, ← c.take.ensures.end) at h))));
+          (i.reads (token ∷ rest) stop (rw (← c.take.ensures.start) (reads_token b token rest stop none is (rw (c.take.ensures.position, ← c.take.ensures.end) at h))));
     }
 
 pub returns-in-None-clause-unclosed : goal.returns-in-None-clause-unclosed
@@ -81,6 +81,13 @@ returns-in-None-token_at-clause-accepts c tokens h =
     let reads = rw (← c.at-at.ensures) at i.reads in
     let none = none_passed c.args.bytes.now c.at-at.result (search rules) (search rules) in
     absurd (never_both _ _ _ h (stops_at c.args.bytes.now c.at-at.result _ reads (search rules) none c.in-None-token_at.ensures))
+
+-- the text was read to its end
+pub returns-clause-refuses : goal.returns-clause-refuses
+returns-clause-refuses c at stops =
+    let i = c.loop-first.invariant in
+    let end : c.loop-first.cursor.at ≡ length c.args.bytes.now = rw i.text at c.in_default.ensures in
+    absurd (never_both _ _ _ (rw end at (i.reads [] c.loop-first.cursor.at (reads_end _ _ end))) stops)
 
 pub returns-clause-tokens : goal.returns-clause-tokens
 returns-clause-tokens c =

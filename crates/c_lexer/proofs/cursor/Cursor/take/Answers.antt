@@ -1,7 +1,7 @@
 use Rattle.std.proofs.Common.{◌+◌, ◌-◌, ◌∙◌, sym, subst, arith}
 use Rattle.c_lexer.specs.Lines.{OnOneLine}
 use Rattle.c_lexer.specs.Reading.{IsLongest, IsTokenOf}
-use Rattle.c_lexer.specs.Scanning.{Place}
+use Rattle.c_lexer.specs.Scanning.{Position}
 use Rattle.c_lexer.specs.declared.token.Token.{Token}
 use Rattle.c_lexer.proofs.Longest.{longest_on_one_line}
 use Rattle.c_lexer.proofs.Places.{line_stays, one_line_joined, column_of}
@@ -23,4 +23,4 @@ returns-clause-token c =
     let t : IsLongest s.bytes.now s.at c.args.end c.args.kind = rw (← c.self.view_is) at c.requires in
     let token : Token = record { kind = c.args.kind; start = s.at; end = c.args.end; line = s.line; column = s.at - s.line_start + 1 } in
     let is : IsTokenOf s.bytes.now token = record { longest = t; line = i.2; column = sym (column_of s.bytes.now s.line_start s.at i.4 i.1 i.5 i.6) } in
-    subst (λ (p : Place). IsTokenOf p.bytes token) c.self.view_is is
+    subst (λ (p : Position). IsTokenOf p.bytes token) c.self.view_is is
