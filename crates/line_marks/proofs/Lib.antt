@@ -1,2 +1,5 @@
 pub mod Groups
 pub mod Dropping
+pub mod Names
+pub mod Tokens
+pub mod Walk

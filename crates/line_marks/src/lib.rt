@@ -3,8 +3,10 @@
 
 mod balance;
 pub mod laws;
+mod place;
 mod stop;
 mod stripping;
 
+pub use place::{Place, Places, places_of};
 pub use stop::StripStop;
 pub use stripping::strip;
