@@ -63,7 +63,7 @@ balanced_once tokens at p q (group o c end opens inside closes pair rest) f (gro
 pub group_once : (tokens : List Token) (at p q : ℕ) → IsGroup tokens at p → IsGroup tokens at q → p ≡ q
 group_once tokens at p q a b =
     let same = balanced_once tokens (at + 1) a.end b.end a.inside (closing_ends tokens a.end a.opening a.closing a.closes a.pair)
-        b.inside (closing_ends tokens b.end b.opening b.closing b.closes b.pair) in
+    b.inside (closing_ends tokens b.end b.opening b.closing b.closes b.pair) in
     a.past ∙ (ap (λ n. n + 1) same ∙ sym b.past)
 
 -- a group ends where the longest balanced text behind its bracket does

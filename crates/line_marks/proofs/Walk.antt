@@ -86,7 +86,7 @@ walked_more bytes name tokens places files more file from line file2 from2 line2
     } in
     let stays : (x : Place) (y : Presumed) → IsPlaceOf files x y → IsPlaceOf more x y = λ x y h. record { file = adds_keep files more (name_said said) x.file y.file added h.file; line = h.line } in
     let all = zip_push (IsPlaceOf more) places (presumed_places first tokens w.says) place (presumed_at p token)
-        (zip_map (IsPlaceOf files) (IsPlaceOf more) stays places (presumed_places first tokens w.says) w.places_are) (stays place (presumed_at p token) here) in
+    (zip_map (IsPlaceOf files) (IsPlaceOf more) stays places (presumed_places first tokens w.says) w.places_are) (stays place (presumed_at p token) here) in
     let last = behind_push bytes token said first tokens w.says w.said in
     record {
       says = w.says ++ said ∷ [];

@@ -6,6 +6,8 @@ pub mod laws;
 mod place;
 mod stop;
 mod stripping;
+#[cfg(test)]
+mod tests;
 
 pub use place::{Place, Places, places_of};
 pub use stop::StripStop;
