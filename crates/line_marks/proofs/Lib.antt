@@ -1,5 +1,6 @@
 pub mod Groups
 pub mod Dropping
+pub mod Deciding
 pub mod Names
 pub mod Tokens
 pub mod Walk

@@ -1,16 +1,18 @@
 //! What holds of all lists of tokens.
 
-ghost use Rattle.std.specs.Prelude.{◌≡◌, ℕ, List};
+ghost use Rattle.std.specs.Prelude.{◌≡◌, ◌⊎◌, ℕ, List};
 ghost use Rattle.c_lexer.specs.declared.token.Token.{Token};
 ghost use Rattle.line_marks.specs.Kept.{AreKept, StopsStripping};
 
-/// Tokens have at most one list that is kept and at most one bad `__attribute__` at which they are
-/// refused, and never both.
+/// Tokens have one list that is kept or one bad `__attribute__` at which they are refused, and never
+/// both.
 pub fn law_one_stripping()
     ensures kept { (tokens : List Token) (first second : List ℕ) →
         AreKept tokens first → AreKept tokens second → first ≡ second }
     ensures stop { (tokens : List Token) (first second : ℕ) →
         StopsStripping tokens first → StopsStripping tokens second → first ≡ second }
+    ensures some { (tokens : List Token) →
+        ((kept : List ℕ) × AreKept tokens kept) ⊎ ((at : ℕ) × StopsStripping tokens at) }
     ensures not_both { (tokens : List Token) (kept : List ℕ) (stop : ℕ) →
         AreKept tokens kept → StopsStripping tokens stop → ⊥ }
 {}
