@@ -1,5 +1,5 @@
 -- Each list of tokens is stripped, or has a bad attribute.
-use Rattle.std.proofs.Common.{◌≡◌, ◌⊎◌, ℕ, zero, suc, ◌+◌, ◌<◌, ◌≤◌, List, [], ◌∷◌, Option, Some, None, length, refl, sym, subst, arith, inl, inr}
+use Rattle.std.proofs.Common.{◌≡◌, ◌⊎◌, ℕ, zero, suc, ◌+◌, ◌<◌, ◌≤◌, List, [], ◌∷◌, Option, Some, None, length, refl, subst, arith, inl, inr}
 use Rattle.std.proofs.lemmas.Bool.{cases_eq, cases_lt}
 use Rattle.c_lexer.specs.declared.token.Kind.{Kind}
 use Rattle.c_lexer.specs.declared.token.Kind.TheVariants.{Word, Key, Number, Char, Text, Mark, Line, Pragma}
@@ -9,7 +9,7 @@ use Rattle.line_marks.specs.Kept as kept
 use Rattle.line_marks.specs.Kept.{AreKept, AreParens, EndsDeclarator, IsAbsent, IsBadAttribute, IsDropped, IsKept, StopsStripping, Strips}
 use Rattle.line_marks.specs.Stripping.{IsBalancedTo}
 use Rattle.line_marks.proofs.Groups.{balanced_end, balanced_group, balanced_none, balanced_plain, group_closed, kind_here, kind_once, kind_past, kind_within, no_group_at}
-use Rattle.line_marks.proofs.Dropping.{absent_at, parens_here, parens_later}
+use Rattle.line_marks.proofs.Dropping.{absent_at, parens_later}
 
 bracket_or_not : (k : Kind) → IsBracket k ⊎ (IsBracket k → ⊥)
 bracket_or_not (Mark n) = elim (cases_lt n 6) [
@@ -126,9 +126,9 @@ group_or_none tokens at end h = elim (mark_at_or_none tokens at) [
     | inl c ↦ elim (closes_or_not o.0 c.0) [
       | inr apart ↦ inr (no_group_at tokens at end o.0 c.0 h o.1 c.1 apart)
       | inl pair ↦ inl (record {
-          within = let l = kind_within tokens end (Mark c.0) c.1 in omega arith;
-          group = record { opening = o.0; closing = c.0; end = end; opens = o.1; inside = h.balanced; closes = c.1; pair = pair; past = refl };
-        })
+        within = let l = kind_within tokens end (Mark c.0) c.1 in omega arith;
+        group = record { opening = o.0; closing = c.0; end = end; opens = o.1; inside = h.balanced; closes = c.1; pair = pair; past = refl };
+      })
     ]
   ]
 ]

@@ -1,7 +1,5 @@
 -- Balanced text ends at one place.
-use Rattle.std.proofs.Common.{◌≡◌, ℕ, zero, suc, ◌+◌, ◌<◌, ◌≤◌, List, [], ◌∷◌, length, Some, None, refl, ap, sym, subst, ◌∙◌, arith, inl, inr}
-use Rattle.std.specs.List.{slice_get}
-use Rattle.std.specs.Option.{option_map}
+use Rattle.std.proofs.Common.{◌≡◌, ℕ, zero, suc, ◌+◌, ◌<◌, ◌≤◌, List, [], ◌∷◌, length, Some, None, refl, ap, sym, subst, ◌∙◌, arith}
 use Rattle.c_lexer.specs.declared.token.Kind.{Kind}
 use Rattle.c_lexer.specs.declared.token.Kind.TheVariants.{Mark}
 use Rattle.c_lexer.specs.declared.token.Token.{Token}
@@ -35,14 +33,14 @@ closer_low : (o c : ℕ) → Closes o c → c ≤ 5
 closer_low o c h = grind arith
 
 -- no balanced text goes on from a closing bracket
-pub closing_ends : (tokens : List Token) (at o c : ℕ) → kind_at tokens at ≡ Some (Mark c) → Closes o c → EndsBalance tokens at
+closing_ends : (tokens : List Token) (at o c : ℕ) → kind_at tokens at ≡ Some (Mark c) → Closes o c → EndsBalance tokens at
 closing_ends tokens at o c is pair = record {
   bracket = λ k e. bracket_is k (Mark c) (kind_once tokens at k (Mark c) e is) (closer_low o c pair);
   no_group = λ to g. apart o c g.closing pair (subst (λ m. Closes m g.closing) (mark_once tokens at g.opening c g.opens is) g.pair);
 }
 
 -- the longest balanced text from a place on has one end
-pub balanced_once : (tokens : List Token) (at p q : ℕ) → AreBalanced tokens at p → EndsBalance tokens p → AreBalanced tokens at q → EndsBalance tokens q → p ≡ q
+balanced_once : (tokens : List Token) (at p q : ℕ) → AreBalanced tokens at p → EndsBalance tokens p → AreBalanced tokens at q → EndsBalance tokens q → p ≡ q
 balanced_once tokens at p q none f none g = refl
 balanced_once tokens at p q none f (plain k is bare rest) g = absurd (bare (f.bracket k is))
 balanced_once tokens at p q none f (group o c end opens inside closes pair rest) g =
@@ -67,7 +65,7 @@ group_once tokens at p q a b =
     a.past ∙ (ap (λ n. n + 1) same ∙ sym b.past)
 
 -- a group ends where the longest balanced text behind its bracket does
-pub group_ends : (tokens : List Token) (at end to : ℕ) → IsBalancedTo tokens (at + 1) end → (g : IsGroup tokens at to) → g.end ≡ end
+group_ends : (tokens : List Token) (at end to : ℕ) → IsBalancedTo tokens (at + 1) end → (g : IsGroup tokens at to) → g.end ≡ end
 group_ends tokens at end to h g =
     balanced_once tokens (at + 1) g.end end g.inside (closing_ends tokens g.end g.opening g.closing g.closes g.pair) h.balanced h.ends
 

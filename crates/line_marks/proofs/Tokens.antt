@@ -1,14 +1,12 @@
 -- What holds of each token of a text.
-use Rattle.std.proofs.Common.{◌≡◌, ◌==◌, ℕ, suc, zero, ◌+◌, ◌<◌, ◌≤◌, List, [], ◌∷◌, length, take, get_or, ap, sym, subst, arith, inl, inr}
+use Rattle.std.proofs.Common.{◌≡◌, ◌==◌, ℕ, suc, zero, ◌+◌, ◌<◌, ◌≤◌, List, [], ◌∷◌, length, take, get_or, subst, arith, inl, inr}
 use Rattle.std.proofs.lemmas.List.{length-take}
 use Rattle.std.proofs.lemmas.List.Sums.{count_by-le-length}
 use Rattle.c_lexer.specs.Bytes.{line_feed}
 use Rattle.c_lexer.specs.Directives.{IsLineMarker}
-use Rattle.c_lexer.specs.Lines.{line_at}
 use Rattle.c_lexer.specs.Passing.{IsPassed, PassesOver, nothing, onward}
 use Rattle.c_lexer.specs.Reading.{AreTokensOf, IsTokenOf, Reads}
 use Rattle.c_lexer.specs.Spelling.{Spells}
-use Rattle.c_lexer.specs.declared.token.Kind.{Kind}
 use Rattle.c_lexer.specs.declared.token.Kind.TheVariants.{Line}
 use Rattle.c_lexer.specs.declared.token.Token.{Token}
 

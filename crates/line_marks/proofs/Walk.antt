@@ -1,6 +1,6 @@
 -- The places of the tokens so far, and of one more.
-use Rattle.std.proofs.Common.{◌≡◌, ℕ, ◌+◌, ◌-◌, List, [], ◌∷◌, ◌++◌, Option, Some, None, length, refl, ap, sym, subst, ◌∙◌, arith}
-use Rattle.std.specs.List.{AllZip, flat_map, slice_get}
+use Rattle.std.proofs.Common.{◌≡◌, ℕ, ◌+◌, ◌-◌, List, [], ◌∷◌, ◌++◌, Option, Some, None, refl, ap, sym, subst, ◌∙◌}
+use Rattle.std.specs.List.{AllZip, slice_get}
 use Rattle.std.specs.Option.{MatchOption, unwrap_or}
 use Rattle.std.proofs.lemmas.Grind.{flat_map-append}
 use Rattle.std.proofs.lemmas.List.{append-nil}
@@ -9,7 +9,7 @@ use Rattle.c_lexer.specs.declared.token.Kind.TheVariants.{Line}
 use Rattle.line_marks.specs.declared.place.Place.{Place}
 use Rattle.line_marks.specs.declared.place.Presumption.{Presumption as Kept}
 use Rattle.line_marks.specs.Naming.{IsBehind}
-use Rattle.line_marks.specs.Presumed.{AddsNames, ArePlacesOf, IsPlaceOf, Presumed, Presumption, Said, Says, behind, first_presumption, name_said, names_said, presumed_at, presumed_places}
+use Rattle.line_marks.specs.Presumed.{AddsNames, IsPlaceOf, Presumed, Presumption, Said, Says, behind, first_presumption, name_said, names_said, presumed_at, presumed_places}
 use Rattle.line_marks.proofs.Names.{adds_append, adds_keep}
 
 -- what is presumed behind all the tokens
@@ -70,7 +70,7 @@ walked_none bytes name files file added here = record {
 }
 
 -- one more token
-pub walked_more : (bytes name : List ℕ) (tokens : List Token) (places : List Place) (files more : List (List ℕ)) (file from line file2 from2 line2 : ℕ)
+walked_more : (bytes name : List ℕ) (tokens : List Token) (places : List Place) (files more : List (List ℕ)) (file from line file2 from2 line2 : ℕ)
     (token : Token) (said : Option Said) (place : Place) → (w : Walked bytes name tokens places files file from line) → Says bytes token said → AddsNames files (name_said said) more →
     place.file ≡ file → place.line ≡ line + (token.line - from) →
     slice_get more file2 ≡ Some (behind (behind_all (first_presumption name) tokens w.says) token said).file →
@@ -120,10 +120,6 @@ walked_marker bytes name tokens places files more before after token place w mar
     let p = behind_all (first_presumption name) tokens w.says in
     walked_more bytes name tokens places files more before.file before.from before.line after.file after.from after.line token (Some b.said) place w (marker, b.marker) b.added at_file at_line
     (file_behind files more (name_said (Some b.said)) before.file after.file b.said.file p.file b.added w.file_is b.file) b.from b.line
-
--- all tokens are walked
-pub walked_all : (bytes name : List ℕ) (tokens : List Token) (places : List Place) (files : List (List ℕ)) (file from line : ℕ) → Walked bytes name tokens places files file from line → ArePlacesOf bytes tokens name places files
-walked_all bytes name tokens places files file from line w = record { says = w.says; said = w.said; files_are = w.files_are; places_are = w.places_are }
 
 -- the same, of other names for the parts
 pub walked_as : (bytes name : List ℕ) (tokens ts : List Token) (places ps : List Place) (files fs : List (List ℕ)) (before after : Kept) →

@@ -1,6 +1,6 @@
 -- What the parts of the walk over the tokens leave.
 
-use Rattle.std.specs.Prelude.{ℕ, ◌≡◌, ◌+◌, ◌≤◌, List, Some, MatchOption, length, map, slice_get}
+use Rattle.std.specs.Prelude.{ℕ, ◌≡◌, ◌+◌, ◌≤◌, List, Some, MatchOption, map, slice_get}
 use Rattle.std.specs.Borrow.{Bor}
 use Rattle.c_lexer.specs.Directives.{IsMarkerOf, max_line}
 use Rattle.c_lexer.specs.declared.token.Token.{Token}

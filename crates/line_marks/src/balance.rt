@@ -100,8 +100,9 @@ pub(crate) fn balanced_ends(alloc: Global, tokens: &[Token]) -> Result<Vec<u32>,
     requires { length tokens.now < 2 ^ 32 }
     ensures { IfOk result (λ ends. AreBalancedTo tokens.now ends.items) }
 {
-    let mut at = tokens.len();
-    let mut ends = vec![in alloc; at as u32; at + 1]?;
+    let count = tokens.len();
+    let mut ends = vec![in alloc; count as u32; count + 1]?;
+    let mut at = count;
     while at > 0 {
         at -= 1;
         ends[at] = end_from(tokens, &ends, at);

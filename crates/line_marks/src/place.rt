@@ -19,7 +19,7 @@ use std::alloc::{AllocError, Global};
 pub struct Place {
     /// The position of the file in the list of files.
     pub file: u32,
-    /// The line, from 1.
+    /// The line in that file.
     pub line: u32,
 }
 

@@ -1,5 +1,5 @@
-use Rattle.std.proofs.Common.{rules, ◌≡◌, ◌+◌, ◌≤◌, ◌<◌, length, slice_index, Some, refl, sym, arith}
-use Rattle.line_marks.specs.Balance.{IsBracket, kind_at}
+use Rattle.std.proofs.Common.{◌+◌, slice_index, sym, arith}
+use Rattle.line_marks.specs.Balance.{IsBracket}
 use Rattle.line_marks.specs.Stripping.{IsBalancedTo}
 use Rattle.line_marks.proofs.Groups.{balanced_group, balanced_none, balanced_plain, kind_here}
 use Rattle.line_marks.proofs.balance.end_from.Goals as goal

@@ -1,4 +1,4 @@
-use Rattle.std.proofs.Common.{ℕ, ◌≡◌, ◌+◌, ◌≤◌, length, Some, None, Option, refl, sym, arith}
+use Rattle.std.proofs.Common.{ℕ}
 use Rattle.line_marks.specs.Balance.{Closes, IsGroup}
 use Rattle.line_marks.proofs.Groups.{group_closed, no_group_at}
 use Rattle.line_marks.proofs.balance.group_end.Goals as goal

@@ -1,4 +1,4 @@
-use Rattle.std.proofs.Common.{rules, ℕ, ◌≡◌, ◌+◌, ◌∷◌, [], List, Option, Some, None, slice_get, refl, sym, subst, ap, ◌∙◌}
+use Rattle.std.proofs.Common.{ℕ, ◌≡◌, ◌+◌, ◌∷◌, [], List, Option, Some, None, slice_get, refl, sym, subst, ap}
 use Rattle.std.specs.Borrow.{Bor}
 use Rattle.c_lexer.specs.Directives.{IsMarkerOf}
 use Rattle.c_lexer.specs.Scanning.{name_of}

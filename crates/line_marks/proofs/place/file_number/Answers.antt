@@ -1,8 +1,7 @@
-use Rattle.std.proofs.Common.{ℕ, ◌≡◌, ◌∷◌, [], List, sym, subst, ap, map}
+use Rattle.std.proofs.Common.{ℕ, ◌∷◌, [], List, sym, subst, map}
 use Rattle.std.specs.Borrow.{Bor}
 use Rattle.line_marks.specs.Presumed.{AddsNames}
 use Rattle.line_marks.proofs.Names.{name_added, name_stored}
-use Rattle.line_marks.proofs.Walk.{walked_none, walked_more}
 use Rattle.line_marks.proofs.place.file_number.Goals as goal
 
 pub returns-clause-stored : goal.returns-clause-stored

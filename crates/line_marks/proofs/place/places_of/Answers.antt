@@ -1,14 +1,14 @@
-use Rattle.std.proofs.Common.{rules, ℕ, ◌≡◌, ◌↔◌, ◌+◌, ◌-◌, ◌<◌, ◌≤◌, ◌∷◌, [], ◌++◌, IsTrue, List, Some, length, map, slice_get, take, get_or, refl, sym, subst, ap, ◌∙◌, arith}
+use Rattle.std.proofs.Common.{rules, ℕ, ◌≡◌, ◌↔◌, ◌+◌, ◌∷◌, [], IsTrue, List, Some, length, map, slice_get, take, get_or, refl, subst, ap, arith}
 use Rattle.std.proofs.lemmas.Grind.{common_steps}
 use Rattle.std.proofs.lemmas.List.{take_more}
 use Rattle.std.specs.Borrow.{Bor}
 use Rattle.c_lexer.specs.declared.token.Kind.TheVariants.{Line, Word}
 use Rattle.c_lexer.specs.declared.token.Token.{Token}
 use Rattle.line_marks.specs.declared.place.Presumption.{Presumption}
-use Rattle.line_marks.specs.Naming.{IsBehind, names_of}
-use Rattle.line_marks.specs.Presumed.{AddsNames, ArePlacesOf}
+use Rattle.line_marks.specs.Naming.{names_of}
+use Rattle.line_marks.specs.Presumed.{AddsNames}
 use Rattle.line_marks.proofs.Tokens.{few_tokens, line_small, marker_is, token_is}
-use Rattle.line_marks.proofs.Walk.{Walked, walked_all, walked_as, walked_marker, walked_none, walked_other}
+use Rattle.line_marks.proofs.Walk.{walked_as, walked_marker, walked_none, walked_other}
 use Rattle.line_marks.proofs.place.places_of.Goals as goal
 use Rattle.line_marks.proofs.place.places_of.Goals.{then-eq+in_ok-presumption, else-eq}
 

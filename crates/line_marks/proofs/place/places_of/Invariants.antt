@@ -1,4 +1,4 @@
-use Rattle.std.proofs.Common.{ℕ, ◌≡◌, ◌+◌, ◌≤◌, length, take}
+use Rattle.std.proofs.Common.{◌≡◌, ◌+◌, ◌≤◌, length, take}
 use Rattle.c_lexer.specs.Directives.{max_line}
 use Rattle.line_marks.specs.Naming.{names_of}
 use Rattle.line_marks.proofs.Walk.{Walked}

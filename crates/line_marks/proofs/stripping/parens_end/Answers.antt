@@ -1,7 +1,7 @@
-use Rattle.std.proofs.Common.{rules, ◌↔◌, IsTrue, ◌≡◌, ◌<◌, ◌+◌, ◌≤◌, ℕ, List, length, Some, None, Option, MatchOption, refl, sym, arith}
+use Rattle.std.proofs.Common.{rules, ◌↔◌, IsTrue, ◌≡◌, ◌<◌, ◌≤◌, ℕ, List, length, Some, None, Option, MatchOption, sym, arith}
 use Rattle.c_lexer.specs.declared.token.Kind.TheVariants.{Mark}
 use Rattle.c_lexer.specs.declared.token.Token.{Token}
-use Rattle.line_marks.specs.Balance.{Closes, IsGroup, kind_at}
+use Rattle.line_marks.specs.Balance.{IsGroup, kind_at}
 use Rattle.line_marks.specs.Kept.{AreParens, IsAbsent}
 use Rattle.line_marks.specs.Kept as kept
 use Rattle.line_marks.proofs.Dropping.{parens_here, parens_later}

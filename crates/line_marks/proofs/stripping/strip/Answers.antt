@@ -1,8 +1,7 @@
-use Rattle.std.proofs.Common.{rules, ◌≡◌, ◌+◌, ◌≤◌, ◌++◌, ◌∷◌, [], ℕ, List, Option, None, length, Some, refl, sym, subst, ap, ◌∙◌, arith}
+use Rattle.std.proofs.Common.{◌≡◌, ◌++◌, ◌∷◌, [], ℕ, List, None, sym, subst, ap, ◌∙◌}
 use Rattle.std.proofs.Math.Seq.{append_snoc}
 use Rattle.std.proofs.lemmas.List.{append-nil}
 use Rattle.c_lexer.specs.declared.token.Token.{Token}
-use Rattle.line_marks.specs.Balance.{kind_at}
 use Rattle.line_marks.specs.Kept as kept
 use Rattle.line_marks.specs.Kept.{AreKept, IsBadAttribute, StopsStripping, Strips}
 use Rattle.line_marks.proofs.Dropping.{not_both}

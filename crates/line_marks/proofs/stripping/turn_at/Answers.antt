@@ -1,5 +1,4 @@
-use Rattle.std.proofs.Common.{rules, ◌≡◌, ◌+◌, ◌≤◌, length, Some, refl, sym, arith}
-use Rattle.line_marks.specs.Balance.{kind_at}
+use Rattle.std.proofs.Common.{arith}
 use Rattle.line_marks.specs.Kept as kept
 use Rattle.line_marks.proofs.Groups.{kind_within}
 use Rattle.line_marks.proofs.stripping.turn_at.Goals as goal
