@@ -1,0 +1,43 @@
+use Rattle.std.proofs.Common.{◌≡◌, ◌++◌, ◌∷◌, [], ℕ, List, None, sym, subst, ap, ◌∙◌}
+use Rattle.std.proofs.Math.Seq.{append_snoc}
+use Rattle.std.proofs.lemmas.List.{append-nil}
+use Rattle.c_lexer.specs.declared.token.Token.{Token}
+use Rattle.line_marks.specs.Kept as kept
+use Rattle.line_marks.specs.Kept.{AreKept, IsBadAttribute, StopsStripping, Strips}
+use Rattle.line_marks.proofs.Dropping.{not_both}
+use Rattle.line_marks.proofs.stripping.strip.Goals as goal
+
+pub loop-kind-preserved : goal.loop-kind-preserved
+loop-kind-preserved c = λ rest stop strips. c.loop-kind.invariant rest stop (kept.Strips.drops c.in-Drop.to c.in-Drop.ensures.2 strips)
+
+pub loop-kind-preserved-in-Keep : goal.loop-kind-preserved-in-Keep
+loop-kind-preserved-in-Keep c = λ rest stop strips.
+    let at = c.loop-kind.at in
+    let all = c.loop-kind.invariant (at ∷ rest) stop (kept.Strips.keeps c.in-Some.kind c.in-Keep.ensures strips) in
+    let same : c.push.new.self.items ++ rest ≡ c.loop-kind.kept.items ++ at ∷ rest =
+    ap (λ (xs : List ℕ). xs ++ rest) c.in_ok-push-in-Keep.ensures.items ∙ append_snoc c.loop-kind.kept.items at rest in
+    subst (λ (xs : List ℕ). Strips c.args.tokens.now None 0 xs stop) (sym same) all
+
+stops_at : (tokens : List Token) (xs : List ℕ) (at : ℕ) → IsBadAttribute tokens at → Strips tokens None 0 (xs ++ []) at → StopsStripping tokens at
+stops_at tokens xs at bad strips = record { before = xs ++ []; strips = strips; bad = bad }
+
+pub returns-in-Refuse-clause-bad_attribute : goal.returns-in-Refuse-clause-bad_attribute
+returns-in-Refuse-clause-bad_attribute c = λ at is.
+    let h = stops_at c.args.tokens.now c.loop-kind.kept.items c.loop-kind.at c.in-Refuse.ensures (c.loop-kind.invariant [] c.loop-kind.at (kept.Strips.stops c.in-Refuse.ensures)) in
+    let same : c.loop-kind.at ≡ at = cc is in
+    subst (λ n. StopsStripping c.args.tokens.now n) same h
+
+pub returns-in-Refuse-clause-accepts : goal.returns-in-Refuse-clause-accepts
+returns-in-Refuse-clause-accepts c = λ xs h.
+    absurd (not_both c.args.tokens.now xs c.loop-kind.at h
+    (stops_at c.args.tokens.now c.loop-kind.kept.items c.loop-kind.at c.in-Refuse.ensures (c.loop-kind.invariant [] c.loop-kind.at (kept.Strips.stops c.in-Refuse.ensures))))
+
+pub returns-clause-kept : goal.returns-clause-kept
+returns-clause-kept c =
+    let end = sym c.in_default.ensures.kind in
+    record {
+      stop = c.loop-kind.at;
+      strips = subst (λ (xs : List ℕ). Strips c.args.tokens.now None 0 xs c.loop-kind.at) (append-nil c.loop-kind.kept.items)
+          (c.loop-kind.invariant [] c.loop-kind.at (kept.Strips.ends end));
+      end = end;
+    }

@@ -1,0 +1,5 @@
+pub mod Balance
+pub mod Kept
+pub mod Presumed
+pub mod Stripping
+pub mod Naming

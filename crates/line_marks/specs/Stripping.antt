@@ -1,0 +1,32 @@
+-- What the parts of the stripping find at a place.
+
+use Rattle.std.specs.Prelude.{ℕ, ◌≡◌, ◌+◌, ◌<◌, ◌≤◌, List, Option, Some, length, slice_index}
+use Rattle.c_lexer.specs.declared.token.Kind.{Kind}
+use Rattle.c_lexer.specs.declared.token.Token.{Token}
+use Rattle.line_marks.specs.declared.stripping.Turn.{Turn}
+use Rattle.line_marks.specs.declared.stripping.Turn.TheVariants.{Drop, Keep, Refuse}
+use Rattle.line_marks.specs.Balance.{AreBalanced, IsBracket, IsGroup, kind_at}
+use Rattle.line_marks.specs.Kept.{IsBadAttribute, IsDropped, IsKept}
+
+-- No balanced text goes on from the place.
+pub record EndsBalance (tokens : List Token) (at : ℕ) : Type 0 where
+  pub bracket : (kind : Kind) → kind_at tokens at ≡ Some kind → IsBracket kind
+  pub no_group : (to : ℕ) → IsGroup tokens at to → ⊥
+
+-- The longest balanced text from `from` on ends at `to`.
+pub record IsBalancedTo (tokens : List Token) (from to : ℕ) : Type 0 where
+  pub low : from ≤ to
+  pub within : to ≤ length tokens
+  pub balanced : AreBalanced tokens from to
+  pub ends : EndsBalance tokens to
+
+-- Where the longest balanced text ends, from each position on.
+pub record AreBalancedTo (tokens : List Token) (ends : List ℕ) : Type 0 where
+  pub one_each : length ends ≡ length tokens + 1
+  pub each : (at : ℕ) → at ≤ length tokens → IsBalancedTo tokens at (slice_index ends at)
+
+-- What is done with the token at the position.
+abbrev pub IsTurn : List Token → Option Kind → ℕ → Kind → Turn → Type 0
+IsTurn tokens before at kind (Drop to) = (at < to) × (to ≤ length tokens) × IsDropped tokens before at to
+IsTurn tokens before at kind Keep = IsKept tokens before at kind
+IsTurn tokens before at kind Refuse = IsBadAttribute tokens at

@@ -1,0 +1,14 @@
+//! Line markers and tokens that the parser passes over.
+#![tactic(auto)]
+
+mod balance;
+pub mod laws;
+mod place;
+mod stop;
+mod stripping;
+#[cfg(test)]
+mod tests;
+
+pub use place::{Place, Places, places_of};
+pub use stop::StripStop;
+pub use stripping::strip;

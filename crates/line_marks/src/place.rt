@@ -1,0 +1,143 @@
+//! The presumed place of each token (C11 6.10.4).
+//!
+//! A line marker says of the line after it which line of which file it is. So an error or a node is
+//! shown where the programmer wrote it, and not where the preprocessor put it.
+
+ghost use Rattle.std.specs.Prelude.{ℕ, ◌≡◌, ◌+◌, ◌-◌, ◌<◌, ◌≤◌, ◌^◌, ◌∷◌, [], Some, length, map, slice_get, IfOk, OnOk};
+ghost use Rattle.c_lexer.specs.Directives.{IsLineMarker};
+ghost use Rattle.c_lexer.specs.Reading.{AreTokensOf};
+ghost use Rattle.line_marks.specs.Naming.{IsBehind, names_of};
+ghost use Rattle.line_marks.specs.Presumed.{AddsNames, ArePlacesOf};
+
+use c_lexer::{Kind, MAX_FILE_BYTES, Token, marker_of};
+use indexmap::IndexSet;
+use joern_io::{Bytes, List};
+use std::alloc::{AllocError, Global};
+
+/// A line of a file.
+#[derive(Clone, Copy, Debug, PartialEq, Eq)]
+pub struct Place {
+    /// The position of the file in the list of files.
+    pub file: u32,
+    /// The line in that file.
+    pub line: u32,
+}
+
+/// The presumed places of a file's tokens.
+#[derive(Debug, Drop)]
+pub struct Places {
+    /// The place of each token.
+    pub places: List<Place>,
+    /// The names of the files, in the order of their first mention.
+    pub files: List<Bytes>,
+}
+
+/// From the physical line `from` on the lines are those of this file, and that line is its `line`.
+#[derive(Clone, Copy, Debug, PartialEq, Eq)]
+struct Presumption {
+    file: u32,
+    from: u32,
+    line: u32,
+}
+
+impl Presumption {
+    /// The presumed place of a token.
+    fn place_of(self, token: &Token) -> Place
+        requires { self.line + token.now.line < 2 ^ 32 }
+        ensures file { result.file ≡ self.file }
+        ensures line { result.line ≡ self.line + (token.now.line - self.from) }
+    {
+        Place {
+            file: self.file,
+            line: self.line + token.line.saturating_sub(self.from),
+        }
+    }
+}
+
+/// The position of a name in the list of files, where it is added at the end if it is new.
+fn file_number<'b>(names: &mut IndexSet<&'b [u8]>, name: &'b [u8]) -> Result<u32, AllocError>
+    requires { length names.old.keys + 1 < 2 ^ 32 }
+    ensures stored { IfOk result (λ file. slice_get (names_of names.new) file ≡ Some name.entry.now) }
+    ensures added { OnOk result
+        (AddsNames (names_of names.old) (name.entry.now ∷ []) (names_of names.new)) }
+    ensures few { OnOk result (length names.new.keys ≤ length names.old.keys + 1) }
+{
+    let (file, _) = names.insert_full(name)?;
+    Ok(file as u32)
+}
+
+/// What is presumed behind a line marker.
+fn behind<'b>(
+    names: &mut IndexSet<&'b [u8]>,
+    before: Presumption,
+    bytes: &'b [u8],
+    token: &Token,
+) -> Result<Presumption, AllocError>
+    requires few { length names.old.keys + 1 < 2 ^ 32 }
+    requires small { length bytes.now ≤ MAX_FILE_BYTES }
+    requires within { token.now.end ≤ length bytes.now }
+    requires line { token.now.line ≤ length bytes.now + 1 }
+    requires marker { IsLineMarker bytes.now token.now.start token.now.end }
+    ensures after { IfOk result (λ after.
+        IsBehind bytes.entry.now token.now (names_of names.old) (names_of names.new) before after) }
+    ensures few { OnOk result (length names.new.keys ≤ length names.old.keys + 1) }
+{
+    let marker = marker_of(bytes, token);
+    let file = match marker.file {
+        Some(name) => file_number(names, name)?,
+        None => before.file,
+    };
+    Ok(Presumption {
+        file,
+        from: token.line + 1,
+        line: marker.line,
+    })
+}
+
+/// The names, each in memory of its own.
+fn owned(alloc: Global, names: &[&[u8]]) -> Result<List<Bytes>, AllocError>
+    ensures { IfOk result (λ files. files ≡ map (λ name. name.now) names.now) }
+{
+    let mut files = List::new(alloc);
+    for name in names {
+        files.push(Bytes::of(name.to_vec(alloc)?))?;
+    }
+    Ok(files)
+}
+
+/// The presumed place of each token, and the names of the files, that with `name` first.
+///
+/// Before the first line marker the lines are those of the file itself. A marker speaks of the line
+/// after it; one without a file's name keeps the file. A name that is mentioned again is not added
+/// again.
+pub fn places_of(
+    alloc: Global,
+    bytes: &[u8],
+    tokens: &[Token],
+    name: &str,
+) -> Result<Places, AllocError>
+    requires small { length bytes.now ≤ MAX_FILE_BYTES }
+    requires tokens { AreTokensOf bytes.now tokens.now }
+    ensures one_each { IfOk result (λ places. length places.places ≡ length tokens.now) }
+    ensures presumed { IfOk result (λ places.
+        ArePlacesOf bytes.now tokens.now name.now places.places places.files) }
+{
+    let mut names: IndexSet<&[u8]> = IndexSet::new(alloc);
+    let file = file_number(&mut names, name.as_bytes())?;
+    let mut presumption = Presumption {
+        file,
+        from: 1,
+        line: 1,
+    };
+    let mut places = Vec::new(alloc);
+    for token in tokens {
+        places.push(presumption.place_of(token))?;
+        if token.kind == Kind::Line {
+            presumption = behind(&mut names, presumption, bytes, token)?;
+        }
+    }
+    Ok(Places {
+        places: List::of(places),
+        files: owned(alloc, names.as_slice())?,
+    })
+}

@@ -1,0 +1,122 @@
+//! The tokens that the parser keeps.
+//!
+//! System headers are full of what a parser of C11 has no grammar for: `__extension__`,
+//! `__attribute__((..))` and `__asm__("..")` behind a declarator. Each is dropped here, with line
+//! markers and pragmas.
+
+ghost use Rattle.std.specs.Prelude.{ℕ, ◌≡◌, ◌<◌, ◌≤◌, ◌^◌, ◌↔◌, List, length, IfOk, IsErrOf, IsOkUnless, IsTrue, MatchOption};
+ghost use Rattle.line_marks.specs.Balance.{kind_at};
+ghost use Rattle.line_marks.specs.Kept.{AreKept, AreParens, EndsDeclarator, IsAbsent, StopsStripping};
+ghost use Rattle.line_marks.specs.Stripping.{AreBalancedTo, IsTurn};
+
+use crate::balance::{balanced_ends, group_from, kind_at};
+use crate::stop::StripStop;
+use c_lexer::keyword::{KEY_ASM, KEY_ATTRIBUTE, KEY_EXTENSION};
+use c_lexer::mark::{MARK_LEFT_PAREN, MARK_RIGHT_BRACKET, MARK_RIGHT_PAREN};
+use c_lexer::{Kind, Token};
+use std::alloc::Global;
+
+/// What is done with a token.
+#[derive(Clone, Copy, Debug, PartialEq, Eq)]
+enum Turn {
+    /// The parser reads it.
+    Keep,
+    /// It is dropped with all before this position.
+    Drop(usize),
+    /// The tokens are refused for it.
+    Refuse,
+}
+
+/// Whether the token is dropped alone.
+fn is_absent(kind: Kind) -> bool
+    ensures { IsTrue result ↔ IsAbsent kind }
+{
+    matches!(kind, Kind::Line | Kind::Pragma | Kind::Key(KEY_EXTENSION))
+}
+
+/// Whether a declarator may end with this token, the last that was kept.
+fn ends_declarator(before: Option<Kind>) -> bool
+    ensures { IsTrue result ↔ EndsDeclarator before }
+{
+    matches!(
+        before,
+        Some(Kind::Word | Kind::Mark(MARK_RIGHT_PAREN | MARK_RIGHT_BRACKET))
+    )
+}
+
+/// Where the parentheses end that follow from `from` on, if they do.
+fn parens_end(tokens: &[Token], ends: &[u32], from: usize) -> Option<usize>
+    requires small { length tokens.now < 2 ^ 32 }
+    requires ends { AreBalancedTo tokens.now ends.now }
+    ensures { MatchOption result
+        ((to : ℕ) → AreParens tokens.now from to → ⊥)
+        (λ to. (from < to) × (to ≤ length tokens.now) × AreParens tokens.now from to) }
+{
+    let mut at = from;
+    while let Some(kind) = kind_at(tokens, at) {
+        if kind == Kind::Mark(MARK_LEFT_PAREN) {
+            return group_from(tokens, ends, at);
+        }
+        if !is_absent(kind) {
+            return None;
+        }
+        at += 1;
+    }
+    None
+}
+
+/// What is done with the token at `at`, where `before` was kept last.
+fn turn_at(tokens: &[Token], ends: &[u32], before: Option<Kind>, at: usize, kind: Kind) -> Turn
+    requires small { length tokens.now < 2 ^ 32 }
+    requires ends { AreBalancedTo tokens.now ends.now }
+    requires token { kind_at tokens.now at ≡ Some kind }
+    ensures { IsTurn tokens.now before at kind result }
+{
+    if is_absent(kind) {
+        return Turn::Drop(at + 1);
+    }
+    match kind {
+        Kind::Key(KEY_ATTRIBUTE) => match parens_end(tokens, ends, at + 1) {
+            Some(to) => Turn::Drop(to),
+            None => Turn::Refuse,
+        },
+        Kind::Key(KEY_ASM) if ends_declarator(before) => match parens_end(tokens, ends, at + 1) {
+            Some(to) => Turn::Drop(to),
+            None => Turn::Keep,
+        },
+        _ => Turn::Keep,
+    }
+}
+
+/// The positions of the tokens that the parser keeps, ascending.
+///
+/// Line markers, pragmas and `__extension__` are dropped, and `__attribute__` with its parentheses.
+/// `__asm__` is dropped with its parentheses behind a word, `)` or `]`, where it names the symbol of
+/// a declarator; any other is kept. Tokens have one list or one bad `__attribute__` (`laws`).
+pub fn strip(alloc: Global, tokens: &[Token]) -> Result<Vec<u32>, StripStop>
+    requires { length tokens.now < 2 ^ 32 }
+    ensures kept { IfOk result (λ kept. AreKept tokens.now kept.items) }
+
+    // A refusal names the first bad `__attribute__`; want of memory alone needs none.
+    ensures bad_attribute { (at : ℕ) → IsErrOf result (StripStop.BadAttribute at) →
+        StopsStripping tokens.now at }
+    ensures accepts { (kept : List ℕ) → AreKept tokens.now kept →
+        IsOkUnless result StripStop.Memory }
+{
+    let ends = balanced_ends(alloc, tokens)?;
+    let mut kept = Vec::new(alloc);
+    let mut before = None;
+    let mut at = 0;
+    while let Some(kind) = kind_at(tokens, at) {
+        match turn_at(tokens, &ends, before, at, kind) {
+            Turn::Keep => {
+                kept.push(at as u32)?;
+                before = Some(kind);
+                at += 1;
+            }
+            Turn::Drop(to) => at = to,
+            Turn::Refuse => return Err(StripStop::BadAttribute { token: at as u32 }),
+        }
+    }
+    Ok(kept)
+}
