@@ -8,7 +8,7 @@ use Rattle.ast_layer.specs.declared.node.Form.{Form}
 use Rattle.ast_layer.specs.declared.node.Form.TheVariants as form
 use Rattle.ast_layer.specs.declared.node.Node.{Node}
 use Rattle.ast_layer.specs.declared.edge.Edge.{Edge}
-use Rattle.ast_layer.specs.Source.{File, token_of, spelling_at}
+use Rattle.ast_layer.specs.Source.{File, token_of, filename_at, spelling_at}
 use Rattle.ast_layer.specs.Operators.{operator_name}
 use Rattle.ast_layer.specs.Nodes.{argument, operand_node, type_text_limit}
 
@@ -38,10 +38,10 @@ abbrev pub form_code : File → Form → Option ℕ → Option (List ℕ)
 form_code file form.Literal token = Some (spelling_at file token)
 form_code file _ token = None
 
-abbrev pub form_filename : File → Form → Option (List ℕ)
-form_filename file form.GlobalMethod = Some file.name
-form_filename file form.Method = Some file.name
-form_filename file _ = None
+abbrev pub form_filename : File → Form → Option ℕ → Option (List ℕ)
+form_filename file form.GlobalMethod token = Some file.name
+form_filename file form.Method token = Some (filename_at file token)
+form_filename file _ token = None
 
 abbrev pub form_type : File → Form → Option ℕ → Option (List ℕ)
 form_type file form.GlobalReturn token = Some (codes "void")
@@ -54,7 +54,7 @@ plain_of file node = record {
   label = form_label node.form;
   name = form_name file node.form node.token;
   code = form_code file node.form node.token;
-  filename = form_filename file node.form;
+  filename = form_filename file node.form node.token;
   line_number = Some node.line;
   order = Some node.place.order;
   argument_index = node.place.argument_index;

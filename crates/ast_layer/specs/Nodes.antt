@@ -6,7 +6,7 @@ use Rattle.c_tree.specs.declared.tree.Prefixed.{Prefixed}
 use Rattle.c_tree.specs.declared.tree.BaseForm.{BaseForm}
 use Rattle.c_tree.specs.declared.tree.BaseForm.TheVariants as base_form
 use Rattle.ast_layer.specs.declared.node.Place.{Place}
-use Rattle.ast_layer.specs.Source.{File, token_of, line_at, spelling_at}
+use Rattle.ast_layer.specs.Source.{File, token_of, line_at, filename_at, spelling_at}
 use Rattle.ast_layer.specs.Operators.{operator_name}
 
 -- the place of a child that is no argument: its ORDER alone
@@ -40,11 +40,11 @@ global_return = record (bare_node label.MethodReturn) {
   type_full_name = Some (codes "void");
 }
 
--- the METHOD of a function with this name
+-- The METHOD of a function with this name. Its file is that in which the name is presumed to stand.
 abbrev pub method_node : File → Option ℕ → ℕ → PlainNode
 method_node file name order = record (bare_node label.Method) {
   name = Some (spelling_at file name);
-  filename = Some file.name;
+  filename = Some (filename_at file name);
   line_number = Some (line_at file name);
   order = Some order;
 }

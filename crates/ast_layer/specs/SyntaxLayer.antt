@@ -2,6 +2,7 @@
 use Rattle.std.specs.Prelude.{ℕ, ◌+◌, List, [], ◌∷◌, ◌++◌, Option, Some, None, slice_get}
 use Rattle.cpg_schema.specs.Graph.{PlainNode, PlainEdge, PlainGraph, plain_graph}
 use Rattle.c_lexer.specs.declared.token.Token.{Token}
+use Rattle.line_marks.specs.Presumed.{Presumed}
 use Rattle.c_tree.specs.declared.tree.Unit.{Unit}
 use Rattle.c_tree.specs.declared.tree.Item.{Item}
 use Rattle.c_tree.specs.declared.tree.Item.TheVariants as item
@@ -125,6 +126,7 @@ unit_nodes file unit = global_method file ∷ global_block ∷ (functions_nodes 
 abbrev pub unit_edges : Unit → List PlainEdge
 unit_edges unit = ast 0 1 ∷ (functions_edges 2 unit.items ++ ast 0 (2 + functions_size unit.items) ∷ [])
 
--- the syntax layer of the file of this name with these bytes and tokens, whose tree is the unit
-abbrev pub syntax_layer : List ℕ → List ℕ → List Token → Unit → PlainGraph
-syntax_layer name bytes tokens unit = plain_graph (unit_nodes (file name bytes tokens) unit) (unit_edges unit)
+-- the syntax layer of the file of this name with these bytes, tokens and places, whose tree is the unit
+abbrev pub syntax_layer : List ℕ → List ℕ → List Token → List Presumed → Unit → PlainGraph
+syntax_layer name bytes tokens places unit =
+    plain_graph (unit_nodes (file name bytes tokens places) unit) (unit_edges unit)

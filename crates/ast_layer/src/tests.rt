@@ -7,18 +7,20 @@ ghost use Rattle.ast_layer.specs.SyntaxLayer.{children_size, expressions, statem
 
 use crate::walk::MAX_NODES;
 use crate::{LayerView, Source, syntax_layer};
-use c_lexer::lex;
+use c_lexer::{Token, lex};
 use c_tree::{
     Assign, Binary, Block, BlockItem, Cond, Declarator, Expr, Item, Prefixed, Specs, Stmt,
     StmtKind, Unit, list_of_one, two_marks,
 };
 use graph_text::print_graph;
-use joern_io::{List, Tape};
+use joern_io::{Bytes, List, Tape};
+use line_marks::Place;
 use std::alloc::{AllocError, Global};
 use std::process::Abort;
 use std::test::Fail;
 
-/// The layer of the file `a.c` with this text and this tree prints these lines.
+/// The layer of the file `a.c` with this text and this tree prints these lines. The places are those
+/// of the physical lines.
 fn assert_lines(
     rt: &impl Abort,
     alloc: Global,
@@ -32,10 +34,39 @@ fn assert_lines(
     let Ok(tokens) = lex(alloc, text.as_bytes()) else {
         panic!(rt; "{text} has tokens");
     };
+    let mut places = Vec::new(alloc);
+    for token in &tokens {
+        places.push(Place {
+            file: 0,
+            line: token.line,
+        })?;
+    }
+    assert_lines_at(rt, alloc, text, &tokens, &places, unit, want)
+}
+
+/// The same, where the tree has these tokens, at these places in the files `a.c` and `x.c`.
+fn assert_lines_at(
+    rt: &impl Abort,
+    alloc: Global,
+    text: &str,
+    tokens: &[Token],
+    places: &[Place],
+    unit: &Unit,
+    want: &str,
+) -> Result<(), Fail>
+    requires room { unit_size unit.now ≤ MAX_NODES }
+{
+    let files = list_of_two(
+        alloc,
+        Bytes::of(b"a.c".to_vec(alloc)?),
+        Bytes::of(b"x.c".to_vec(alloc)?),
+    )?;
     let source = Source {
         name: b"a.c",
         bytes: text.as_bytes(),
-        tokens: &tokens,
+        tokens,
+        places,
+        files: files.items(),
     };
     let layer = syntax_layer(alloc, source, unit)?;
     let view = LayerView {
@@ -110,6 +141,31 @@ fn a_file_without_functions_has_three_nodes(rt: HostRuntime) -> Result<(), Fail>
         edge 0 AST 1\n\
         edge 0 AST 2\n";
     assert_lines(&rt, rt.alloc(), "", &unit, want)
+}
+
+// `# 7 "x.c"`: the next line is line 7 of `x.c`. The line marker is no token of the tree.
+#[test]
+fn a_function_has_the_file_and_the_line_of_its_name(rt: HostRuntime) -> Result<(), Fail> {
+    let alloc = rt.alloc();
+    let text = "# 7 \"x.c\"\nint f(void){}";
+    let tokens = lex(alloc, text.as_bytes())?;
+    let Some((_, kept)) = tokens.split_first() else {
+        panic!(rt; "{text} has tokens");
+    };
+    let places = [Place { file: 1, line: 7 }; 7];
+    let unit = unit_of(alloc, List::new(alloc), 6)?;
+    let want = "node 0 METHOD NAME=<global> FILENAME=a.c LINE_NUMBER=1 ORDER=1\n\
+        node 1 BLOCK LINE_NUMBER=1 ORDER=1\n\
+        node 2 METHOD NAME=f FILENAME=x.c LINE_NUMBER=7 ORDER=1\n\
+        node 3 BLOCK LINE_NUMBER=7 ORDER=1\n\
+        node 4 METHOD_RETURN LINE_NUMBER=7 ORDER=2 TYPE_FULL_NAME=int\n\
+        node 5 METHOD_RETURN LINE_NUMBER=1 ORDER=2 TYPE_FULL_NAME=void\n\
+        edge 0 AST 1\n\
+        edge 0 AST 5\n\
+        edge 1 AST 2\n\
+        edge 2 AST 3\n\
+        edge 2 AST 4\n";
+    assert_lines_at(&rt, alloc, text, kept, &places, &unit, want)
 }
 
 #[test]

@@ -88,10 +88,12 @@ impl<'s> Source<'s> {
 
     /// The file of a node.
     fn filename_text(&self, node: &Node) -> Option<&'s [u8]>
-        ensures { option_copied result ≡ form_filename (file_of self.now) node.now.form }
+        ensures { option_copied result ≡
+            form_filename (file_of self.now) node.now.form node.now.token }
     {
         match node.form {
-            Form::GlobalMethod | Form::Method => Some(self.name),
+            Form::GlobalMethod => Some(self.name),
+            Form::Method => Some(self.filename(node.token)),
             _ => None,
         }
     }

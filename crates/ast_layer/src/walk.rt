@@ -4,7 +4,7 @@ ghost use Rattle.std.specs.Prelude.{◌≡◌, ◌+◌, ◌≤◌, [], ◌++◌,
 ghost use Rattle.cpg_schema.specs.Graph.{plain_graph};
 ghost use Rattle.cpg_schema.specs.Lines.{graph_lines};
 ghost use Rattle.cpg_schema.specs.Order.{in_order};
-ghost use Rattle.ast_layer.specs.Source.{file_of};
+ghost use Rattle.ast_layer.specs.Source.{file_of, source_places};
 ghost use Rattle.ast_layer.specs.SyntaxLayer.{functions_edges, functions_nodes, functions_size, syntax_layer as graph_of, unit_edges, unit_nodes, unit_size};
 ghost use Rattle.ast_layer.specs.Layer.{layer_edges, layer_nodes};
 
@@ -30,15 +30,15 @@ pub fn syntax_layer(
     requires room { unit_size unit.now ≤ MAX_NODES }
     ensures nodes { IfOk result (λ layer. layer_nodes (file_of source.entry) layer ≡
         (graph_of source.entry.name.now source.entry.bytes.now source.entry.tokens.now
-        unit.now).nodes) }
+        (source_places source.entry) unit.now).nodes) }
     ensures edges { IfOk result (λ layer. layer_edges layer ≡
         in_order (graph_of source.entry.name.now source.entry.bytes.now source.entry.tokens.now
-        unit.now).edges) }
+        (source_places source.entry) unit.now).edges) }
     ensures in_order { IfOk result (λ layer. in_order (layer_edges layer) ≡ layer_edges layer) }
     ensures lines { IfOk result (λ layer.
         graph_lines (plain_graph (layer_nodes (file_of source.entry) layer) (layer_edges layer)) ≡
         graph_lines (graph_of source.entry.name.now source.entry.bytes.now
-        source.entry.tokens.now unit.now)) }
+        source.entry.tokens.now (source_places source.entry) unit.now)) }
 {
     let mut builder = Builder::new(alloc, source);
     builder.unit(unit)?;
