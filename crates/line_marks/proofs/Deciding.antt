@@ -6,7 +6,7 @@ use Rattle.c_lexer.specs.declared.token.Kind.TheVariants.{Word, Key, Number, Cha
 use Rattle.c_lexer.specs.declared.token.Token.{Token}
 use Rattle.line_marks.specs.Balance.{Closes, IsBracket, IsGroup, kind_at}
 use Rattle.line_marks.specs.Kept as kept
-use Rattle.line_marks.specs.Kept.{AreKept, AreParens, EndsDeclarator, IsAbsent, IsBadAttribute, IsDropped, IsKept, StopsStripping, Strips}
+use Rattle.line_marks.specs.Kept.{AreKept, AreParens, MayEndDeclarator, IsAbsent, IsBadAttribute, IsDropped, IsKept, StopsStripping, Strips}
 use Rattle.line_marks.specs.Stripping.{IsBalancedTo}
 use Rattle.line_marks.proofs.Groups.{balanced_end, balanced_group, balanced_none, balanced_plain, group_closed, kind_here, kind_once, kind_past, kind_within, no_group_at}
 use Rattle.line_marks.proofs.Dropping.{absent_at, parens_later}
@@ -57,7 +57,7 @@ mark_or_not Text = inr (λ n e. cc)
 mark_or_not Line = inr (λ n e. cc)
 mark_or_not Pragma = inr (λ n e. cc)
 
-declarator_or_not : (before : Option Kind) → EndsDeclarator before ⊎ (EndsDeclarator before → ⊥)
+declarator_or_not : (before : Option Kind) → MayEndDeclarator before ⊎ (MayEndDeclarator before → ⊥)
 declarator_or_not None = inr (λ h. h)
 declarator_or_not (Some Word) = inl tt
 declarator_or_not (Some (Mark n)) = elim (cases_eq n 3) [
@@ -222,13 +222,13 @@ record Dropped (tokens : List Token) (before : Option Kind) (at : ℕ) : Type 0 
 
 -- what is done with a token that is neither absent nor an attribute, nor names a symbol
 other_kept : (tokens : List Token) (before : Option Kind) (at to : ℕ) (k : Kind) → kind_at tokens at ≡ Some k → (IsAbsent k → ⊥) → (k ≡ Key 57 → ⊥) →
-    (k ≡ Key 59 → EndsDeclarator before → (to : ℕ) → AreParens tokens (at + 1) to → ⊥) → IsDropped tokens before at to → ⊥
+    (k ≡ Key 59 → MayEndDeclarator before → (to : ℕ) → AreParens tokens (at + 1) to → ⊥) → IsDropped tokens before at to → ⊥
 other_kept tokens before at to k e here attribute asm (kept.IsDropped.absent j is gone) = here (absent_at tokens at k j e is gone)
 other_kept tokens before at to k e here attribute asm (kept.IsDropped.attribute is round) = attribute (kind_once tokens at k (Key 57) e is)
-other_kept tokens before at to k e here attribute asm (kept.IsDropped.label is ends round) = asm (kind_once tokens at k (Key 59) e is) ends to round
+other_kept tokens before at to k e here attribute asm (kept.IsDropped.symbol is ends round) = asm (kind_once tokens at k (Key 59) e is) ends to round
 
 kept_from : (tokens : List Token) (before : Option Kind) (at : ℕ) (k : Kind) → kind_at tokens at ≡ Some k → (IsAbsent k → ⊥) → (k ≡ Key 57 → ⊥) →
-    (k ≡ Key 59 → EndsDeclarator before → (to : ℕ) → AreParens tokens (at + 1) to → ⊥) → IsKept tokens before at k
+    (k ≡ Key 59 → MayEndDeclarator before → (to : ℕ) → AreParens tokens (at + 1) to → ⊥) → IsKept tokens before at k
 kept_from tokens before at k e here attribute asm = record {
   token = e;
   stays = λ to. other_kept tokens before at to k e here attribute asm;
@@ -236,8 +236,8 @@ kept_from tokens before at k e here attribute asm = record {
 }
 
 -- a token is dropped, bad or kept
-turn_exists : (tokens : List Token) (before : Option Kind) (at : ℕ) (k : Kind) → kind_at tokens at ≡ Some k → Dropped tokens before at ⊎ IsBadAttribute tokens at ⊎ IsKept tokens before at k
-turn_exists tokens before at k e =
+treatment_exists : (tokens : List Token) (before : Option Kind) (at : ℕ) (k : Kind) → kind_at tokens at ≡ Some k → Dropped tokens before at ⊎ IsBadAttribute tokens at ⊎ IsKept tokens before at k
+treatment_exists tokens before at k e =
     let follow = parens_or_none tokens (length tokens) (at + 1) (omega arith) in
     elim (absent_or_not k) [
       | inl gone ↦ inl (record { to = at + 1; low = omega arith; dropped = kept.IsDropped.absent k e gone })
@@ -251,7 +251,7 @@ turn_exists tokens before at k e =
           | inl asm ↦ elim (declarator_or_not before) [
             | inr statement ↦ inr (inr (kept_from tokens before at k e here other (λ _ h. absurd (statement h))))
             | inl ends ↦ elim follow [
-              | inl p ↦ inl (record { to = p.to; low = let low = p.low in omega arith; dropped = kept.IsDropped.label (cc) ends p.parens })
+              | inl p ↦ inl (record { to = p.to; low = let low = p.low in omega arith; dropped = kept.IsDropped.symbol (cc) ends p.parens })
               | inr none ↦ inr (inr (kept_from tokens before at k e here other (λ _ _. none)))
             ]
           ]
@@ -272,7 +272,7 @@ strips_exist tokens zero before at l =
     record { list = []; stop = at; strips = kept.Strips.ends end; ends = inl end }
 strips_exist tokens (suc n) before at l = elim (token_or_none tokens at) [
   | inr end ↦ record { list = []; stop = at; strips = kept.Strips.ends end; ends = inl end }
-  | inl k ↦ elim (turn_exists tokens before at k.0 k.1) [
+  | inl k ↦ elim (treatment_exists tokens before at k.0 k.1) [
     | inl d ↦
         let low = d.low in
         let rest = strips_exist tokens n before d.to (omega arith) in

@@ -4,7 +4,7 @@ use Rattle.c_lexer.specs.declared.token.Kind.{Kind}
 use Rattle.c_lexer.specs.declared.token.Kind.TheVariants.{Key, Mark}
 use Rattle.c_lexer.specs.declared.token.Token.{Token}
 use Rattle.line_marks.specs.Balance.{IsGroup, kind_at}
-use Rattle.line_marks.specs.Kept.{AreKept, AreParens, IsAbsent, IsBadAttribute, IsDropped, IsKept, StopsStripping, Strips, EndsDeclarator}
+use Rattle.line_marks.specs.Kept.{AreKept, AreParens, IsAbsent, IsBadAttribute, IsDropped, IsKept, StopsStripping, Strips, MayEndDeclarator}
 use Rattle.line_marks.specs.Kept as kept
 use Rattle.line_marks.proofs.Groups.{group_once, kind_once}
 
@@ -36,25 +36,25 @@ asm_attribute tokens at a b = let f : ℕ = 59 in let g : ℕ = 57 in let e : f 
 dropped_once : (tokens : List Token) (before : Option Kind) (at p q : ℕ) → IsDropped tokens before at p → IsDropped tokens before at q → p ≡ q
 dropped_once tokens before at p q (kept.IsDropped.absent k is gone) (kept.IsDropped.absent j is2 gone2) = refl
 dropped_once tokens before at p q (kept.IsDropped.absent k is gone) (kept.IsDropped.attribute is2 round) = absurd (not_attribute tokens at k is is2 gone)
-dropped_once tokens before at p q (kept.IsDropped.absent k is gone) (kept.IsDropped.label is2 ends round) = absurd (not_asm tokens at k is is2 gone)
+dropped_once tokens before at p q (kept.IsDropped.absent k is gone) (kept.IsDropped.symbol is2 ends round) = absurd (not_asm tokens at k is is2 gone)
 dropped_once tokens before at p q (kept.IsDropped.attribute is round) (kept.IsDropped.absent j is2 gone2) = absurd (not_attribute tokens at j is2 is gone2)
 dropped_once tokens before at p q (kept.IsDropped.attribute is round) (kept.IsDropped.attribute is2 round2) = parens_once tokens (at + 1) p q round round2
-dropped_once tokens before at p q (kept.IsDropped.attribute is round) (kept.IsDropped.label is2 ends round2) = absurd (asm_attribute tokens at is2 is)
-dropped_once tokens before at p q (kept.IsDropped.label is ends round) (kept.IsDropped.absent j is2 gone2) = absurd (not_asm tokens at j is2 is gone2)
-dropped_once tokens before at p q (kept.IsDropped.label is ends round) (kept.IsDropped.attribute is2 round2) = absurd (asm_attribute tokens at is is2)
-dropped_once tokens before at p q (kept.IsDropped.label is ends round) (kept.IsDropped.label is2 ends2 round2) = parens_once tokens (at + 1) p q round round2
+dropped_once tokens before at p q (kept.IsDropped.attribute is round) (kept.IsDropped.symbol is2 ends round2) = absurd (asm_attribute tokens at is2 is)
+dropped_once tokens before at p q (kept.IsDropped.symbol is ends round) (kept.IsDropped.absent j is2 gone2) = absurd (not_asm tokens at j is2 is gone2)
+dropped_once tokens before at p q (kept.IsDropped.symbol is ends round) (kept.IsDropped.attribute is2 round2) = absurd (asm_attribute tokens at is is2)
+dropped_once tokens before at p q (kept.IsDropped.symbol is ends round) (kept.IsDropped.symbol is2 ends2 round2) = parens_once tokens (at + 1) p q round round2
 
 -- a bad attribute is not dropped
 bad_stays : (tokens : List Token) (before : Option Kind) (at to : ℕ) → IsBadAttribute tokens at → IsDropped tokens before at to → ⊥
 bad_stays tokens before at to bad (kept.IsDropped.absent k is gone) = not_attribute tokens at k is bad.word gone
 bad_stays tokens before at to bad (kept.IsDropped.attribute is round) = bad.alone to round
-bad_stays tokens before at to bad (kept.IsDropped.label is ends round) = asm_attribute tokens at is bad.word
+bad_stays tokens before at to bad (kept.IsDropped.symbol is ends round) = asm_attribute tokens at is bad.word
 
 -- what is dropped begins with a token
 dropped_some : (tokens : List Token) (before : Option Kind) (at to : ℕ) → kind_at tokens at ≡ None → IsDropped tokens before at to → ⊥
 dropped_some tokens before at to e (kept.IsDropped.absent k is gone) = cc
 dropped_some tokens before at to e (kept.IsDropped.attribute is round) = cc
-dropped_some tokens before at to e (kept.IsDropped.label is ends round) = cc
+dropped_some tokens before at to e (kept.IsDropped.symbol is ends round) = cc
 
 -- tokens are stripped in one way
 strips_once : (tokens : List Token) (before : Option Kind) (at : ℕ) (xs ys : List ℕ) (p q : ℕ) → Strips tokens before at xs p → Strips tokens before at ys q → (xs ≡ ys) × (p ≡ q)
@@ -86,12 +86,12 @@ kept_once tokens xs ys a b = (strips_once tokens None 0 xs ys a.stop b.stop a.st
 
 -- tokens are refused for one attribute
 pub stop_once : (tokens : List Token) (p q : ℕ) → StopsStripping tokens p → StopsStripping tokens q → p ≡ q
-stop_once tokens p q a b = (strips_once tokens None 0 a.before b.before p q a.strips b.strips).1
+stop_once tokens p q a b = (strips_once tokens None 0 a.kept b.kept p q a.strips b.strips).1
 
 -- tokens that have a list that is kept are not refused
 pub not_both : (tokens : List Token) (xs : List ℕ) (p : ℕ) → AreKept tokens xs → StopsStripping tokens p → ⊥
 not_both tokens xs p a b =
-    let same = (strips_once tokens None 0 xs b.before a.stop p a.strips b.strips).1 in
+    let same = (strips_once tokens None 0 xs b.kept a.stop p a.strips b.strips).1 in
     let end = subst (λ n. kind_at tokens n ≡ None) same a.end in
     let word = b.bad.word in
     cc

@@ -22,21 +22,21 @@ pub data AreParens (tokens : List Token) : ℕ → ℕ → Type 0 where
   parens : {from to : ℕ} → kind_at tokens from ≡ Some (Mark MARK_LEFT_PAREN) →
       IsGroup tokens from to → AreParens tokens from to
 
--- The last token that was kept is a word, `)` or `]`, with which a declarator ends: an `__asm__` after
--- it names the symbol.
-abbrev pub EndsDeclarator : Option Kind → Type 0
-EndsDeclarator (Some Word) = Unit {0}
-EndsDeclarator (Some (Mark number)) = (number ≡ MARK_RIGHT_PAREN) ⊎ (number ≡ MARK_RIGHT_BRACKET)
-EndsDeclarator _ = ⊥
+-- The last token that was kept is a word, `)` or `]`, with which a declarator may end: an `__asm__`
+-- after it may name the symbol. A statement that stands so, as behind `if (x)`, is not told apart.
+abbrev pub MayEndDeclarator : Option Kind → Type 0
+MayEndDeclarator (Some Word) = Unit {0}
+MayEndDeclarator (Some (Mark number)) = (number ≡ MARK_RIGHT_PAREN) ⊎ (number ≡ MARK_RIGHT_BRACKET)
+MayEndDeclarator _ = ⊥
 
 -- From `at` to `to` stands what is dropped: an absent token, `__attribute__` with its parentheses, or,
--- where a declarator ends, `__asm__` with its parentheses.
+-- where a declarator may end, `__asm__` with its parentheses.
 pub data IsDropped (tokens : List Token) (before : Option Kind) (at : ℕ) : ℕ → Type 0 where
   absent : (kind : Kind) → kind_at tokens at ≡ Some kind → IsAbsent kind →
       IsDropped tokens before at (at + 1)
   attribute : {to : ℕ} → kind_at tokens at ≡ Some (Key KEY_ATTRIBUTE) → AreParens tokens (at + 1) to →
       IsDropped tokens before at to
-  label : {to : ℕ} → kind_at tokens at ≡ Some (Key KEY_ASM) → EndsDeclarator before →
+  symbol : {to : ℕ} → kind_at tokens at ≡ Some (Key KEY_ASM) → MayEndDeclarator before →
       AreParens tokens (at + 1) to → IsDropped tokens before at to
 
 -- The token at the position is `__attribute__`, and no parentheses follow it.
@@ -70,6 +70,6 @@ pub record AreKept (tokens : List Token) (kept : List ℕ) : Type 0 where
 
 -- The parser keeps nothing of the tokens, for the `__attribute__` at the position is bad.
 pub record StopsStripping (tokens : List Token) (at : ℕ) : Type 0 where
-  pub before : List ℕ
-  pub strips : Strips tokens None 0 before at
+  pub kept : List ℕ
+  pub strips : Strips tokens None 0 kept at
   pub bad : IsBadAttribute tokens at

@@ -3,8 +3,8 @@
 use Rattle.std.specs.Prelude.{ℕ, ◌≡◌, ◌+◌, ◌<◌, ◌≤◌, List, Option, Some, length, slice_index}
 use Rattle.c_lexer.specs.declared.token.Kind.{Kind}
 use Rattle.c_lexer.specs.declared.token.Token.{Token}
-use Rattle.line_marks.specs.declared.stripping.Turn.{Turn}
-use Rattle.line_marks.specs.declared.stripping.Turn.TheVariants.{Drop, Keep, Refuse}
+use Rattle.line_marks.specs.declared.stripping.Treatment.{Treatment}
+use Rattle.line_marks.specs.declared.stripping.Treatment.TheVariants.{Drop, Keep, Refuse}
 use Rattle.line_marks.specs.Balance.{AreBalanced, IsBracket, IsGroup, kind_at}
 use Rattle.line_marks.specs.Kept.{IsBadAttribute, IsDropped, IsKept}
 
@@ -26,7 +26,7 @@ pub record AreBalancedTo (tokens : List Token) (ends : List ℕ) : Type 0 where
   pub each : (at : ℕ) → at ≤ length tokens → IsBalancedTo tokens at (slice_index ends at)
 
 -- What is done with the token at the position.
-abbrev pub IsTurn : List Token → Option Kind → ℕ → Kind → Turn → Type 0
-IsTurn tokens before at kind (Drop to) = (at < to) × (to ≤ length tokens) × IsDropped tokens before at to
-IsTurn tokens before at kind Keep = IsKept tokens before at kind
-IsTurn tokens before at kind Refuse = IsBadAttribute tokens at
+abbrev pub IsTreatment : List Token → Option Kind → ℕ → Kind → Treatment → Type 0
+IsTreatment tokens before at kind (Drop to) = (at < to) × (to ≤ length tokens) × IsDropped tokens before at to
+IsTreatment tokens before at kind Keep = IsKept tokens before at kind
+IsTreatment tokens before at kind Refuse = IsBadAttribute tokens at

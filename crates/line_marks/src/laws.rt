@@ -19,7 +19,7 @@ pub fn law_one_stripping()
         AreKept tokens kept → StopsStripping tokens stop → ⊥ }
 {}
 
-/// A text has one list of places, and one list of files.
+/// A text has at most one list of places, and one list of files.
 pub fn law_one_place()
     ensures places { (bytes : List ℕ) (tokens : List Token) (name : List ℕ)
         (first second : List Place) (files more : List (List ℕ)) →

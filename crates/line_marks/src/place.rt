@@ -1,7 +1,7 @@
 //! The presumed place of each token (C11 6.10.4).
 //!
-//! A line marker says of the line after it which line of which file it is. So an error or a node is
-//! shown where the programmer wrote it, and not where the preprocessor put it.
+//! A line marker says of the line after it which line of which file it is. So a node has the line
+//! that the programmer wrote, and not the one where the preprocessor put it.
 
 ghost use Rattle.std.specs.Prelude.{ℕ, ◌≡◌, ◌+◌, ◌-◌, ◌<◌, ◌≤◌, ◌^◌, ◌∷◌, [], Some, length, map, slice_get, IfOk, OnOk};
 ghost use Rattle.c_lexer.specs.Directives.{IsLineMarker};

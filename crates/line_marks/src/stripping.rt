@@ -6,8 +6,8 @@
 
 ghost use Rattle.std.specs.Prelude.{ℕ, ◌≡◌, ◌<◌, ◌≤◌, ◌^◌, ◌↔◌, List, length, IfOk, IsErrOf, IsOkUnless, IsTrue, MatchOption};
 ghost use Rattle.line_marks.specs.Balance.{kind_at};
-ghost use Rattle.line_marks.specs.Kept.{AreKept, AreParens, EndsDeclarator, IsAbsent, StopsStripping};
-ghost use Rattle.line_marks.specs.Stripping.{AreBalancedTo, IsTurn};
+ghost use Rattle.line_marks.specs.Kept.{AreKept, AreParens, MayEndDeclarator, IsAbsent, StopsStripping};
+ghost use Rattle.line_marks.specs.Stripping.{AreBalancedTo, IsTreatment};
 
 use crate::balance::{balanced_ends, group_from, kind_at};
 use crate::stop::StripStop;
@@ -18,7 +18,7 @@ use std::alloc::Global;
 
 /// What is done with a token.
 #[derive(Clone, Copy, Debug, PartialEq, Eq)]
-enum Turn {
+enum Treatment {
     /// The parser reads it.
     Keep,
     /// It is dropped with all before this position.
@@ -35,8 +35,8 @@ fn is_absent(kind: Kind) -> bool
 }
 
 /// Whether a declarator may end with this token, the last that was kept.
-fn ends_declarator(before: Option<Kind>) -> bool
-    ensures { IsTrue result ↔ EndsDeclarator before }
+fn may_end_declarator(before: Option<Kind>) -> bool
+    ensures { IsTrue result ↔ MayEndDeclarator before }
 {
     matches!(
         before,
@@ -66,33 +66,39 @@ fn parens_end(tokens: &[Token], ends: &[u32], from: usize) -> Option<usize>
 }
 
 /// What is done with the token at `at`, where `before` was kept last.
-fn turn_at(tokens: &[Token], ends: &[u32], before: Option<Kind>, at: usize, kind: Kind) -> Turn
+fn treatment_at(
+    tokens: &[Token],
+    ends: &[u32],
+    before: Option<Kind>,
+    at: usize,
+    kind: Kind,
+) -> Treatment
     requires small { length tokens.now < 2 ^ 32 }
     requires ends { AreBalancedTo tokens.now ends.now }
     requires token { kind_at tokens.now at ≡ Some kind }
-    ensures { IsTurn tokens.now before at kind result }
+    ensures { IsTreatment tokens.now before at kind result }
 {
     if is_absent(kind) {
-        return Turn::Drop(at + 1);
+        return Treatment::Drop(at + 1);
     }
     match kind {
         Kind::Key(KEY_ATTRIBUTE) => match parens_end(tokens, ends, at + 1) {
-            Some(to) => Turn::Drop(to),
-            None => Turn::Refuse,
+            Some(to) => Treatment::Drop(to),
+            None => Treatment::Refuse,
         },
-        Kind::Key(KEY_ASM) if ends_declarator(before) => match parens_end(tokens, ends, at + 1) {
-            Some(to) => Turn::Drop(to),
-            None => Turn::Keep,
+        Kind::Key(KEY_ASM) if may_end_declarator(before) => match parens_end(tokens, ends, at + 1) {
+            Some(to) => Treatment::Drop(to),
+            None => Treatment::Keep,
         },
-        _ => Turn::Keep,
+        _ => Treatment::Keep,
     }
 }
 
 /// The positions of the tokens that the parser keeps, ascending.
 ///
 /// Line markers, pragmas and `__extension__` are dropped, and `__attribute__` with its parentheses.
-/// `__asm__` is dropped with its parentheses behind a word, `)` or `]`, where it names the symbol of
-/// a declarator; any other is kept. Tokens have one list or one bad `__attribute__` (`laws`).
+/// `__asm__` is dropped with its parentheses behind a word, `)` or `]`, where a declarator may end and
+/// it names the symbol; any other is kept. Tokens have one list or one bad `__attribute__` (`laws`).
 pub fn strip(alloc: Global, tokens: &[Token]) -> Result<Vec<u32>, StripStop>
     requires { length tokens.now < 2 ^ 32 }
     ensures kept { IfOk result (λ kept. AreKept tokens.now kept.items) }
@@ -108,14 +114,14 @@ pub fn strip(alloc: Global, tokens: &[Token]) -> Result<Vec<u32>, StripStop>
     let mut before = None;
     let mut at = 0;
     while let Some(kind) = kind_at(tokens, at) {
-        match turn_at(tokens, &ends, before, at, kind) {
-            Turn::Keep => {
+        match treatment_at(tokens, &ends, before, at, kind) {
+            Treatment::Keep => {
                 kept.push(at as u32)?;
                 before = Some(kind);
                 at += 1;
             }
-            Turn::Drop(to) => at = to,
-            Turn::Refuse => return Err(StripStop::BadAttribute { token: at as u32 }),
+            Treatment::Drop(to) => at = to,
+            Treatment::Refuse => return Err(StripStop::BadAttribute { token: at as u32 }),
         }
     }
     Ok(kept)

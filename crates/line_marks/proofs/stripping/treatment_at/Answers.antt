@@ -1,7 +1,7 @@
 use Rattle.std.proofs.Common.{arith}
 use Rattle.line_marks.specs.Kept as kept
 use Rattle.line_marks.proofs.Groups.{kind_within}
-use Rattle.line_marks.proofs.stripping.turn_at.Goals as goal
+use Rattle.line_marks.proofs.stripping.treatment_at.Goals as goal
 
 pub overflow_add-result : goal.overflow_add-result
 overflow_add-result c = let h = kind_within c.args.tokens.now c.args.at c.args.kind c.requires.token in omega arith
@@ -25,4 +25,4 @@ returns-in-Some c =
 pub returns-in-Some-parens_end : goal.returns-in-Some-parens_end
 returns-in-Some-parens_end c =
     let h = c.in-Some-parens_end.ensures in
-    (omega (arith, h.0), h.1, kept.IsDropped.label (cc (c.requires.token, c.in-Key-eq59.is, c.in-Key-eq59.field-0-is)) (c.ends_declarator.ensures.0 c.if-ends_declarator.true) h.2)
+    (omega (arith, h.0), h.1, kept.IsDropped.symbol (cc (c.requires.token, c.in-Key-eq59.is, c.in-Key-eq59.field-0-is)) (c.may_end_declarator.ensures.0 c.if-may_end_declarator.true) h.2)
