@@ -4,3 +4,4 @@ pub mod SortedKeys
 pub mod Children
 pub mod Reordering
 pub mod Room
+pub mod Moves

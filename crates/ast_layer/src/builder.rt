@@ -1,4 +1,4 @@
-ghost use Rattle.std.specs.Prelude.{◌≡◌, ◌<◌, ◌≤◌, ◌^◌, ◌∷◌, [], ◌++◌, length, OnOk};
+ghost use Rattle.std.specs.Prelude.{◌≡◌, ◌<◌, ◌≤◌, ◌^◌, ◌∷◌, [], ◌++◌, length, IfOk, OnOk};
 ghost use Rattle.ast_layer.specs.Source.{file_of, line_at};
 ghost use Rattle.ast_layer.specs.Nodes.{call_node, operand_node};
 ghost use Rattle.ast_layer.specs.Edges.{ast, argument_edge, call_edges};
@@ -6,9 +6,10 @@ ghost use Rattle.ast_layer.specs.Building.{plain_of};
 ghost use Rattle.ast_layer.specs.Layer.{layer_edges, layer_nodes};
 ghost use Rattle.cpg_schema.specs.Order.{in_order};
 
-use crate::edge::{Edge, sort_edges};
+use crate::edge::Edge;
 use crate::layer::SyntaxLayer;
 use crate::node::{Form, Node, Place};
+use crate::sorting::sort_edges;
 use crate::source::Source;
 use c_tree::{BaseForm, Prefixed};
 use cpg_schema::EdgeKind;
@@ -156,18 +157,19 @@ impl<'s> Builder<'s> {
     }
 
     /// The layer, with its edges in the order of printing.
-    pub(crate) fn finish(self) -> SyntaxLayer
+    pub(crate) fn finish(self, alloc: Global) -> Result<SyntaxLayer, AllocError>
         requires nodes { length self.nodes < 2 ^ 32 }
         requires edges { length self.edges < 2 ^ 32 }
-        ensures nodes { layer_nodes self.entry.file result ≡ self.entry.nodes }
-        ensures edges { layer_edges result ≡ in_order self.entry.edges }
+        ensures nodes { IfOk result (λ layer.
+            layer_nodes self.entry.file layer ≡ self.entry.nodes) }
+        ensures edges { IfOk result (λ layer. layer_edges layer ≡ in_order self.entry.edges) }
     {
         let Builder {
             source: _,
             nodes,
             mut edges,
         } = self;
-        sort_edges(&mut edges);
-        SyntaxLayer { nodes, edges }
+        sort_edges(alloc, &mut edges)?;
+        Ok(SyntaxLayer { nodes, edges })
     }
 }

@@ -1,10 +1,9 @@
-ghost use Rattle.std.specs.Prelude.{◌≡◌, map};
+ghost use Rattle.std.specs.Prelude.{◌≡◌};
 ghost use Rattle.cpg_schema.specs.Names.{kind_place};
-ghost use Rattle.cpg_schema.specs.Order.{edge_cmp, in_order};
+ghost use Rattle.cpg_schema.specs.Order.{edge_cmp};
 ghost use Rattle.ast_layer.specs.Building.{plain_edge_of};
 
 use cpg_schema::EdgeKind;
-use cpg_schema::laws::law_only_order;
 use std::cmp::Ordering;
 
 /// An edge of the layer, between the numbers of two nodes.
@@ -35,19 +34,11 @@ fn place_of(kind: EdgeKind) -> u8
 }
 
 /// By from, kind and to.
-fn compare(a: &Edge, b: &Edge) -> Ordering
+pub(crate) fn compare(a: &Edge, b: &Edge) -> Ordering
     ensures { result ≡ edge_cmp (plain_edge_of a.now) (plain_edge_of b.now) }
 {
     a.from
         .cmp(&b.from)
         .then(place_of(a.kind).cmp(&place_of(b.kind)))
         .then(a.to.cmp(&b.to))
-}
-
-/// Puts edges in the order of printing.
-pub(crate) fn sort_edges(edges: &mut [Edge])
-    ensures { map plain_edge_of edges.new ≡ in_order (map plain_edge_of edges.old) }
-{
-    law_only_order();
-    edges.sort_unstable_by(|a, b| compare(a, b));
 }

@@ -10,6 +10,7 @@ pub mod laws;
 mod layer;
 mod node;
 mod operator;
+mod sorting;
 mod source;
 #[cfg(test)]
 mod tests;

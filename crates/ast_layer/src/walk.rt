@@ -42,7 +42,7 @@ pub fn syntax_layer(
 {
     let mut builder = Builder::new(alloc, source);
     builder.unit(unit)?;
-    Ok(builder.finish())
+    builder.finish(alloc)
 }
 
 impl<'s> Builder<'s> {

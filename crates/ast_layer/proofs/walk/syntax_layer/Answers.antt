@@ -1,4 +1,6 @@
-use Rattle.std.proofs.Common.{refl, ◌≡◌, arith, length-append}
+use Rattle.std.proofs.Common.{refl, ◌≡◌, Result, Ok, Err, arith, length-append}
+use Rattle.std.specs.Result.{IfOk}
+use Rattle.std.proofs.lemmas.Result.{IfOk-weaker}
 use Rattle.cpg_schema.specs.Order.{in_order}
 use Rattle.ast_layer.specs.Source.{file_of}
 use Rattle.ast_layer.specs.SyntaxLayer.{unit_nodes, unit_edges}
@@ -19,12 +21,18 @@ finish-requires-clause-edges c =
 
 pub returns-clause-in_order : goal.returns-clause-in_order
 returns-clause-in_order c =
-    let edges : layer_edges c.finish.result ≡ in_order (unit_edges c.args.unit.now) = grind (arith) in
-    rw (edges) (in_order-again (unit_edges c.args.unit.now))
+    IfOk-weaker c.finish.result _ _ (λ layer edges. rw (edges) (in_order-again c.unit.new.self.edges)) c.finish.ensures.edges
+
+-- what two clauses say of an Ok
+both : {T E : Type 0} → (r : Result T E) (P Q : T → Type 0) → IfOk r P → IfOk r Q → IfOk r (λ x. P x × Q x)
+both (Ok x) P Q p q = (p, q)
+both (Err e) P Q p q = tt
 
 pub returns-clause-lines : goal.returns-clause-lines
 returns-clause-lines c =
-    let nodes : layer_nodes (file_of c.args.source) c.finish.result ≡ unit_nodes (file_of c.args.source) c.args.unit.now = grind arith in
-    let edges : layer_edges c.finish.result ≡ in_order (unit_edges c.args.unit.now) = grind arith in
+    let unit_is : c.unit.new.self.edges ≡ unit_edges c.args.unit.now = grind arith in
     let again = in_order-again (unit_edges c.args.unit.now) in
-    rw (nodes, edges, again) refl
+    IfOk-weaker c.finish.result _ _ (λ layer said.
+    let nodes : layer_nodes (file_of c.args.source) layer ≡ unit_nodes (file_of c.args.source) c.args.unit.now = grind arith in
+    let edges : layer_edges layer ≡ in_order (unit_edges c.args.unit.now) = grind arith in
+    rw (nodes, edges, again) refl) (both c.finish.result _ _ c.finish.ensures.nodes c.finish.ensures.edges)
