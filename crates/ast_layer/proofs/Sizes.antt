@@ -5,7 +5,7 @@ use Rattle.c_tree.specs.declared.tree.Unit.{Unit}
 use Rattle.c_tree.specs.declared.tree.Assign.{Assign}
 use Rattle.c_tree.specs.declared.tree.Item.{Item}
 use Rattle.c_tree.specs.declared.tree.Item.TheVariants as item
-use Rattle.ast_layer.specs.declared.node.Place.{Place}
+use Rattle.ast_layer.specs.declared.node.Rank.{Rank}
 use Rattle.ast_layer.specs.Source.{File}
 use Rattle.ast_layer.specs.Grouping.{Grouped, Operand, Joined, to_the_left, to_the_right, grouped_binary, grouped_assign}
 use Rattle.ast_layer.specs.Nodes.{argument, child, global_return}
@@ -19,10 +19,10 @@ grouped_size-pos (Operand operand) = omega arith
 grouped_size-pos (Joined operator left right) = omega arith
 
 -- as many nodes as it has
-pub length-grouped_nodes : (file : File) (place : Place) (grouped : Grouped) →
-    length (grouped_nodes file place grouped) ≡ grouped_size grouped
-length-grouped_nodes file place (Operand operand) = refl
-length-grouped_nodes file place (Joined operator left right) =
+pub length-grouped_nodes : (file : File) (rank : Rank) (grouped : Grouped) →
+    length (grouped_nodes file rank grouped) ≡ grouped_size grouped
+length-grouped_nodes file rank (Operand operand) = refl
+length-grouped_nodes file rank (Joined operator left right) =
     let l = length-grouped_nodes file (argument 1) left in
     let r = length-grouped_nodes file (argument 2) right in
     omega (arith, length-append (grouped_nodes file (argument 1) left) (grouped_nodes file (argument 2) right))

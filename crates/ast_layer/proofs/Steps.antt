@@ -1,7 +1,7 @@
 -- One more item of a list.
 use Rattle.std.proofs.Common.{◌≡◌, ℕ, ◌+◌, ◌*◌, ◌<◌, List, [], ◌∷◌, ◌++◌, length, get_or, take, drop, refl, ap, ◌∙◌, arith, add-one, drop-cons, take-suc, length-take-le, append_assoc, append-nil}
 use Rattle.c_tree.specs.declared.tree.Prefixed.{Prefixed}
-use Rattle.ast_layer.specs.declared.node.Place.{Place}
+use Rattle.ast_layer.specs.declared.node.Rank.{Rank}
 use Rattle.ast_layer.specs.Source.{File}
 use Rattle.ast_layer.specs.Grouping.{Grouped, Operand, Joined, to_the_left, first_token, operand_token}
 use Rattle.ast_layer.specs.Nodes.{argument, call_node}
@@ -47,12 +47,12 @@ front-step first rest n left item more below is =
     let step = to_the_left-step (Operand first) rest n item below in
     cc
 
-pub front-nodes : (file : File) (place : Place) (first : Prefixed) (rest : List (ℕ × Prefixed)) (n left : ℕ) (item : ℕ × Prefixed) →
+pub front-nodes : (file : File) (rank : Rank) (first : Prefixed) (rest : List (ℕ × Prefixed)) (n left : ℕ) (item : ℕ × Prefixed) →
     left ≡ n + 1 → n < length rest → item ≡ get_or rest n item →
-    grouped_nodes file place (front first rest left) ++ operands_nodes file (drop left rest)
-    ≡ call_node file item.0 (operand_token first) place
+    grouped_nodes file rank (front first rest left) ++ operands_nodes file (drop left rest)
+    ≡ call_node file item.0 (operand_token first) rank
     ∷ (grouped_nodes file (argument 1) (front first rest n) ++ operands_nodes file (drop n rest))
-front-nodes file place first rest n left item more below is =
+front-nodes file rank first rest n left item more below is =
     let step = front-step first rest n left item more below is in
     let begins : first_token (front first rest n) ≡ operand_token first = first_token-left (Operand first) (take n rest) in
     let dropped = drop_step rest n item below in

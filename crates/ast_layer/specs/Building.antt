@@ -8,7 +8,7 @@ use Rattle.ast_layer.specs.declared.node.Form.{Form}
 use Rattle.ast_layer.specs.declared.node.Form.TheVariants as form
 use Rattle.ast_layer.specs.declared.node.Node.{Node}
 use Rattle.ast_layer.specs.declared.edge.Edge.{Edge}
-use Rattle.ast_layer.specs.Source.{File, token_of, filename_at, spelling_at}
+use Rattle.ast_layer.specs.Source.{File, token_of, presumed_file_at, spelling_at}
 use Rattle.ast_layer.specs.Operators.{operator_name}
 use Rattle.ast_layer.specs.Nodes.{argument, operand_node, type_text_limit}
 
@@ -40,7 +40,7 @@ form_code file _ token = None
 
 abbrev pub form_filename : File → Form → Option ℕ → Option (List ℕ)
 form_filename file form.GlobalMethod token = Some file.name
-form_filename file form.Method token = Some (filename_at file token)
+form_filename file form.Method token = Some (presumed_file_at file token)
 form_filename file _ token = None
 
 abbrev pub form_type : File → Form → Option ℕ → Option (List ℕ)
@@ -56,8 +56,8 @@ plain_of file node = record {
   code = form_code file node.form node.token;
   filename = form_filename file node.form node.token;
   line_number = Some node.line;
-  order = Some node.place.order;
-  argument_index = node.place.argument_index;
+  order = Some node.rank.order;
+  argument_index = node.rank.argument_index;
   type_full_name = form_type file node.form node.token;
   control_structure_type = None;
   linkage = None;

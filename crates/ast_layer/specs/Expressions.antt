@@ -1,7 +1,7 @@
 -- The layer of an expression. The first node has the number `at`, and the others follow it in preorder.
 use Rattle.std.specs.Prelude.{ℕ, ◌+◌, List, [], ◌∷◌, ◌++◌}
 use Rattle.cpg_schema.specs.Graph.{PlainNode, PlainEdge}
-use Rattle.ast_layer.specs.declared.node.Place.{Place}
+use Rattle.ast_layer.specs.declared.node.Rank.{Rank}
 use Rattle.ast_layer.specs.Source.{File}
 use Rattle.ast_layer.specs.Grouping.{Grouped, Operand, Joined, first_token}
 use Rattle.ast_layer.specs.Nodes.{argument, operand_node, call_node}
@@ -13,10 +13,10 @@ grouped_size (Operand operand) = 1
 grouped_size (Joined operator left right) = 1 + (grouped_size left + grouped_size right)
 
 -- a CALL comes before its arguments
-abbrev pub grouped_nodes : File → Place → Grouped → List PlainNode
-grouped_nodes file place (Operand operand) = operand_node file operand place ∷ []
-grouped_nodes file place (Joined operator left right) =
-    call_node file operator (first_token left) place
+abbrev pub grouped_nodes : File → Rank → Grouped → List PlainNode
+grouped_nodes file rank (Operand operand) = operand_node file operand rank ∷ []
+grouped_nodes file rank (Joined operator left right) =
+    call_node file operator (first_token left) rank
     ∷ (grouped_nodes file (argument 1) left ++ grouped_nodes file (argument 2) right)
 
 -- from each CALL to its arguments

@@ -5,16 +5,16 @@ use Rattle.cpg_schema.specs.Graph.{PlainNode, bare_node}
 use Rattle.c_tree.specs.declared.tree.Prefixed.{Prefixed}
 use Rattle.c_tree.specs.declared.tree.BaseForm.{BaseForm}
 use Rattle.c_tree.specs.declared.tree.BaseForm.TheVariants as base_form
-use Rattle.ast_layer.specs.declared.node.Place.{Place}
-use Rattle.ast_layer.specs.Source.{File, token_of, line_at, filename_at, spelling_at}
+use Rattle.ast_layer.specs.declared.node.Rank.{Rank}
+use Rattle.ast_layer.specs.Source.{File, token_of, presumed_line_at, presumed_file_at, spelling_at}
 use Rattle.ast_layer.specs.Operators.{operator_name}
 
--- the place of a child that is no argument: its ORDER alone
-abbrev pub child : ℕ → Place
+-- the rank of a child that is no argument: its ORDER alone
+abbrev pub child : ℕ → Rank
 child order = record { order = order; argument_index = None }
 
--- the place of an argument: its ORDER, which is its ARGUMENT_INDEX too
-abbrev pub argument : ℕ → Place
+-- the rank of an argument: its ORDER, which is its ARGUMENT_INDEX too
+abbrev pub argument : ℕ → Rank
 argument order = record { order = order; argument_index = Some order }
 
 -- the longest type text, in bytes
@@ -44,47 +44,47 @@ global_return = record (bare_node label.MethodReturn) {
 abbrev pub method_node : File → Option ℕ → ℕ → PlainNode
 method_node file name order = record (bare_node label.Method) {
   name = Some (spelling_at file name);
-  filename = Some (filename_at file name);
-  line_number = Some (line_at file name);
+  filename = Some (presumed_file_at file name);
+  line_number = Some (presumed_line_at file name);
   order = Some order;
 }
 
 -- the BLOCK of a body whose `{` this is
 abbrev pub block_node : File → Option ℕ → PlainNode
-block_node file brace = record (bare_node label.Block) { line_number = Some (line_at file brace); order = Some 1 }
+block_node file brace = record (bare_node label.Block) { line_number = Some (presumed_line_at file brace); order = Some 1 }
 
 -- the METHOD_RETURN of the function with this name and this type specifier
 abbrev pub return_node : File → Option ℕ → Option ℕ → PlainNode
 return_node file name specifier = record (bare_node label.MethodReturn) {
-  line_number = Some (line_at file name);
+  line_number = Some (presumed_line_at file name);
   order = Some 2;
   type_full_name = Some (take type_text_limit (spelling_at file specifier));
 }
 
 -- The CALL of an operator. Its line is that of the first token of its construct.
-abbrev pub call_node : File → ℕ → Option ℕ → Place → PlainNode
-call_node file operator first place = record (bare_node label.Call) {
+abbrev pub call_node : File → ℕ → Option ℕ → Rank → PlainNode
+call_node file operator first rank = record (bare_node label.Call) {
   name = operator_name (token_of file (Some operator));
-  line_number = Some (line_at file first);
-  order = Some place.order;
-  argument_index = place.argument_index;
+  line_number = Some (presumed_line_at file first);
+  order = Some rank.order;
+  argument_index = rank.argument_index;
 }
 
 -- the IDENTIFIER or the LITERAL that a primary expression is
-abbrev pub form_node : File → BaseForm → Place → PlainNode
-form_node file (base_form.Name token) place = record (bare_node label.Identifier) {
+abbrev pub form_node : File → BaseForm → Rank → PlainNode
+form_node file (base_form.Name token) rank = record (bare_node label.Identifier) {
   name = Some (spelling_at file (Some token));
-  line_number = Some (line_at file (Some token));
-  order = Some place.order;
-  argument_index = place.argument_index;
+  line_number = Some (presumed_line_at file (Some token));
+  order = Some rank.order;
+  argument_index = rank.argument_index;
 }
-form_node file (base_form.Literal tokens) place = record (bare_node label.Literal) {
+form_node file (base_form.Literal tokens) rank = record (bare_node label.Literal) {
   code = Some (spelling_at file (slice_get tokens 0));
-  line_number = Some (line_at file (slice_get tokens 0));
-  order = Some place.order;
-  argument_index = place.argument_index;
+  line_number = Some (presumed_line_at file (slice_get tokens 0));
+  order = Some rank.order;
+  argument_index = rank.argument_index;
 }
 
 -- the node of an operand
-abbrev pub operand_node : File → Prefixed → Place → PlainNode
-operand_node file operand place = form_node file operand.base.form place
+abbrev pub operand_node : File → Prefixed → Rank → PlainNode
+operand_node file operand rank = form_node file operand.base.form rank

@@ -18,7 +18,7 @@ abbrev pub file : List ℕ → List ℕ → List Token → List Presumed → Fil
 file name bytes tokens places = record { name = name; bytes = bytes; tokens = tokens; places = places }
 
 -- The presumed place that a kept one stands for. Its file is that at the position in the list of names,
--- and has no name where there is none.
+-- and has the empty name where there is none.
 abbrev pub presumed_of : List (List ℕ) → Place → Presumed
 presumed_of files place = record { file = unwrap_or (slice_get files place.file) []; line = place.line }
 
@@ -45,22 +45,22 @@ abbrev pub line_of : Option Presumed → ℕ
 line_of None = 0
 line_of (Some place) = place.line
 
--- the name of the file of a place, and none where there is no place
+-- the name of the file of a place, and the empty name where there is no place
 abbrev pub filename_of : Option Presumed → List ℕ
 filename_of None = []
 filename_of (Some place) = place.file
 
--- the bytes of a token (its spelling, C11 6.4), and none where there is no token
+-- the bytes of a token (its spelling, C11 6.4), and no bytes where there is no token
 abbrev pub spelling_in : List ℕ → Option Token → List ℕ
 spelling_in bytes None = []
 spelling_in bytes (Some token) = slice_range bytes token.start token.end
 
 -- the same, of the token of this number
-abbrev pub line_at : File → Option ℕ → ℕ
-line_at file number = line_of (place_of file number)
+abbrev pub presumed_line_at : File → Option ℕ → ℕ
+presumed_line_at file number = line_of (place_of file number)
 
-abbrev pub filename_at : File → Option ℕ → List ℕ
-filename_at file number = filename_of (place_of file number)
+abbrev pub presumed_file_at : File → Option ℕ → List ℕ
+presumed_file_at file number = filename_of (place_of file number)
 
 abbrev pub spelling_at : File → Option ℕ → List ℕ
 spelling_at file number = spelling_in file.bytes (token_of file number)

@@ -1,4 +1,4 @@
--- The syntax layer of a file: its nodes in preorder, and the edges between them. A node's number is its place.
+-- The syntax layer of a file: its nodes in preorder, and the edges between them. A node's number is its place in this order.
 use Rattle.std.specs.Prelude.{ℕ, ◌+◌, List, [], ◌∷◌, ◌++◌, Option, Some, None, slice_get}
 use Rattle.cpg_schema.specs.Graph.{PlainNode, PlainEdge, PlainGraph, plain_graph}
 use Rattle.c_lexer.specs.declared.token.Token.{Token}
@@ -40,7 +40,7 @@ grouped_part (Some part) = Some (grouped_assign part)
 abbrev pub statement : BlockItem → Option Grouped
 statement item = grouped_part (slice_get (item_parts item) 0)
 
--- The expressions of statements. A statement without one has no node, and no place among the children of its BLOCK.
+-- The expressions of statements. A statement without one has no node, and no rank among the children of its BLOCK.
 abbrev pub and_then : Option Grouped → List Grouped → List Grouped
 and_then None rest = rest
 and_then (Some grouped) rest = grouped ∷ rest
@@ -49,7 +49,7 @@ abbrev pub expressions : List BlockItem → List Grouped
 expressions [] = []
 expressions (item ∷ items) = and_then (statement item) (expressions items)
 
--- The children of a BLOCK (6.8.2), each in its place from `order` on.
+-- The children of a BLOCK (6.8.2), with ranks from `order` on.
 abbrev pub children_size : List Grouped → ℕ
 children_size [] = 0
 children_size (first ∷ rest) = grouped_size first + children_size rest
@@ -103,7 +103,7 @@ function_edges at (item.Define specs declarator body) =
 
 -- ---- Files (6.9)
 
--- The functions, each in its place from `order` on among the children of the BLOCK of `<global>`, which is node 1.
+-- The functions, with ranks from `order` on among the children of the BLOCK of `<global>`, which is node 1.
 abbrev pub functions_size : List Item → ℕ
 functions_size [] = 0
 functions_size (item ∷ items) = function_size item + functions_size items

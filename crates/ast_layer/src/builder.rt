@@ -1,5 +1,5 @@
 ghost use Rattle.std.specs.Prelude.{◌≡◌, ◌<◌, ◌≤◌, ◌^◌, ◌∷◌, [], ◌++◌, length, IfOk, OnOk};
-ghost use Rattle.ast_layer.specs.Source.{file_of, line_at};
+ghost use Rattle.ast_layer.specs.Source.{file_of, presumed_line_at};
 ghost use Rattle.ast_layer.specs.Nodes.{call_node, operand_node};
 ghost use Rattle.ast_layer.specs.Edges.{ast, argument_edge, call_edges};
 ghost use Rattle.ast_layer.specs.Building.{plain_of};
@@ -8,7 +8,7 @@ ghost use Rattle.cpg_schema.specs.Order.{in_order};
 
 use crate::edge::Edge;
 use crate::layer::SyntaxLayer;
-use crate::node::{Form, Node, Place};
+use crate::node::{Form, Node, Rank};
 use crate::sorting::sort_edges;
 use crate::source::Source;
 use c_tree::{BaseForm, Prefixed};
@@ -57,7 +57,7 @@ impl<'s> Builder<'s> {
 
     /// The line of a token.
     pub(crate) fn line(&self, token: Option<u32>) -> u32
-        ensures { result ≡ line_at self.now.file token }
+        ensures { result ≡ presumed_line_at self.now.file token }
     {
         self.source.line(token)
     }
@@ -120,11 +120,11 @@ impl<'s> Builder<'s> {
         &mut self,
         operator: u32,
         first: Option<u32>,
-        place: Place,
+        rank: Rank,
     ) -> Result<(), AllocError>
         ensures file { OnOk result (self.new.file ≡ self.old.file) }
         ensures nodes { OnOk result (self.new.nodes ≡
-            self.old.nodes ++ call_node self.old.file operator first place ∷ []) }
+            self.old.nodes ++ call_node self.old.file operator first rank ∷ []) }
         ensures edges { OnOk result (self.new.edges ≡ self.old.edges) }
     {
         let line = self.line(first);
@@ -132,15 +132,15 @@ impl<'s> Builder<'s> {
             form: Form::Call,
             token: Some(operator),
             line,
-            place,
+            rank,
         })
     }
 
     /// Adds the node of an operand.
-    pub(crate) fn operand(&mut self, operand: &Prefixed, place: Place) -> Result<(), AllocError>
+    pub(crate) fn operand(&mut self, operand: &Prefixed, rank: Rank) -> Result<(), AllocError>
         ensures file { OnOk result (self.new.file ≡ self.old.file) }
         ensures nodes { OnOk result (self.new.nodes ≡
-            self.old.nodes ++ operand_node self.old.file operand.now place ∷ []) }
+            self.old.nodes ++ operand_node self.old.file operand.now rank ∷ []) }
         ensures edges { OnOk result (self.new.edges ≡ self.old.edges) }
     {
         let (form, token) = match &operand.base.form {
@@ -152,7 +152,7 @@ impl<'s> Builder<'s> {
             form,
             token,
             line,
-            place,
+            rank,
         })
     }
 

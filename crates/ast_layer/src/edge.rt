@@ -15,7 +15,7 @@ pub(crate) struct Edge {
 }
 
 /// The place of a kind in the order of printing.
-fn place_of(kind: EdgeKind) -> u8
+fn kind_order(kind: EdgeKind) -> u8
     ensures { result ≡ kind_place kind }
 {
     match kind {
@@ -39,6 +39,6 @@ pub(crate) fn compare(a: &Edge, b: &Edge) -> Ordering
 {
     a.from
         .cmp(&b.from)
-        .then(place_of(a.kind).cmp(&place_of(b.kind)))
+        .then(kind_order(a.kind).cmp(&kind_order(b.kind)))
         .then(a.to.cmp(&b.to))
 }

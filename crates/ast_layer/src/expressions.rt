@@ -7,7 +7,7 @@ ghost use Rattle.ast_layer.specs.Expressions.{grouped_edges, grouped_nodes, grou
 ghost use Rattle.ast_layer.specs.Building.{operands_nodes};
 
 use crate::builder::Builder;
-use crate::node::Place;
+use crate::node::Rank;
 use crate::walk::MAX_NODES;
 use c_tree::{Assign, BaseForm, Binary, Prefixed};
 use std::alloc::AllocError;
@@ -24,28 +24,28 @@ fn token_of(operand: &Prefixed) -> Option<u32>
 
 impl<'s> Builder<'s> {
     /// Adds the layer of an assignment expression.
-    pub(crate) fn assign(&mut self, assign: &Assign, place: Place) -> Result<(), AllocError>
+    pub(crate) fn assign(&mut self, assign: &Assign, rank: Rank) -> Result<(), AllocError>
         requires room { length self.old.nodes + grouped_size (grouped_assign assign.now) ≤
             MAX_NODES }
         ensures file { OnOk result (self.new.file ≡ self.old.file) }
         ensures nodes { OnOk result (self.new.nodes ≡
-            self.old.nodes ++ grouped_nodes self.old.file place (grouped_assign assign.now)) }
+            self.old.nodes ++ grouped_nodes self.old.file rank (grouped_assign assign.now)) }
         ensures edges { OnOk result (self.new.edges ≡ self.old.edges ++
             grouped_edges (length self.old.nodes) (grouped_assign assign.now)) }
     {
-        let place = self.targets(assign, place)?;
-        self.binary(&assign.value.last, place)
+        let rank = self.targets(assign, rank)?;
+        self.binary(&assign.value.last, rank)
     }
 
-    /// Adds the assignments to the targets, each with its left side, and returns the place of the
+    /// Adds the assignments to the targets, each with its left side, and returns the rank of the
     /// value that is assigned.
-    fn targets(&mut self, assign: &Assign, place: Place) -> Result<Place, AllocError>
+    fn targets(&mut self, assign: &Assign, rank: Rank) -> Result<Rank, AllocError>
         requires room { length self.old.nodes + grouped_size (grouped_assign assign.now) ≤
             MAX_NODES }
         ensures file { OnOk result (self.new.file ≡ self.old.file) }
         ensures nodes { IfOk result (λ after. self.new.nodes ++
             grouped_nodes self.old.file after (grouped_binary assign.now.value.last) ≡
-            self.old.nodes ++ grouped_nodes self.old.file place (grouped_assign assign.now)) }
+            self.old.nodes ++ grouped_nodes self.old.file rank (grouped_assign assign.now)) }
         ensures edges { OnOk result (self.new.edges ++
             grouped_edges (length self.new.nodes) (grouped_binary assign.now.value.last) ≡
             self.old.edges ++ grouped_edges (length self.old.nodes) (grouped_assign assign.now)) }
@@ -53,56 +53,56 @@ impl<'s> Builder<'s> {
             grouped_size (grouped_binary assign.now.value.last) ≤ MAX_NODES) }
     {
         let targets = assign.targets.items();
-        let mut place = place;
+        let mut rank = rank;
         for target in targets {
             let call = self.count();
-            self.call(target.1, token_of(&target.0), place)?;
+            self.call(target.1, token_of(&target.0), rank)?;
             self.arguments(call, call + 1, call + 2)?;
-            self.operand(&target.0, Place::argument(1))?;
-            place = Place::argument(2);
+            self.operand(&target.0, Rank::argument(1))?;
+            rank = Rank::argument(2);
         }
-        Ok(place)
+        Ok(rank)
     }
 
     /// Adds the layer of operands that are joined by operators, the last one outermost.
-    fn binary(&mut self, binary: &Binary, place: Place) -> Result<(), AllocError>
+    fn binary(&mut self, binary: &Binary, rank: Rank) -> Result<(), AllocError>
         requires room { length self.old.nodes + grouped_size (grouped_binary binary.now) ≤
             MAX_NODES }
         ensures file { OnOk result (self.new.file ≡ self.old.file) }
         ensures nodes { OnOk result (self.new.nodes ≡
-            self.old.nodes ++ grouped_nodes self.old.file place (grouped_binary binary.now)) }
+            self.old.nodes ++ grouped_nodes self.old.file rank (grouped_binary binary.now)) }
         ensures edges { OnOk result (self.new.edges ≡ self.old.edges ++
             grouped_edges (length self.old.nodes) (grouped_binary binary.now)) }
     {
-        let place = self.operators(binary, place)?;
-        self.operand(&binary.first, place)?;
+        let rank = self.operators(binary, rank)?;
+        self.operand(&binary.first, rank)?;
         self.operands(binary.rest.items())
     }
 
-    /// Adds the operators, and returns the place of the first operand.
-    fn operators(&mut self, binary: &Binary, place: Place) -> Result<Place, AllocError>
+    /// Adds the operators, and returns the rank of the first operand.
+    fn operators(&mut self, binary: &Binary, rank: Rank) -> Result<Rank, AllocError>
         requires room { length self.old.nodes + grouped_size (grouped_binary binary.now) ≤
             MAX_NODES }
         ensures file { OnOk result (self.new.file ≡ self.old.file) }
         ensures nodes { IfOk result (λ after. self.new.nodes ++
             operand_node self.old.file binary.now.first after ∷
             operands_nodes self.old.file binary.now.rest ≡
-            self.old.nodes ++ grouped_nodes self.old.file place (grouped_binary binary.now)) }
+            self.old.nodes ++ grouped_nodes self.old.file rank (grouped_binary binary.now)) }
         ensures edges { OnOk result (self.new.edges ≡ self.old.edges ++
             grouped_edges (length self.old.nodes) (grouped_binary binary.now)) }
     {
         let first = token_of(&binary.first);
         let rest = binary.rest.items();
-        let mut place = place;
+        let mut rank = rank;
         let mut left = rest.len();
         while left > 0 {
             left -= 1;
             let call = self.count();
-            self.call(rest[left].0, first, place)?;
+            self.call(rest[left].0, first, rank)?;
             self.arguments(call, call + 1, call + 2 + 2 * left as u32)?;
-            place = Place::argument(1);
+            rank = Rank::argument(1);
         }
-        Ok(place)
+        Ok(rank)
     }
 
     /// Adds the right operands of a chain.
@@ -113,7 +113,7 @@ impl<'s> Builder<'s> {
         ensures edges { OnOk result (self.new.edges ≡ self.old.edges) }
     {
         for next in rest {
-            self.operand(&next.1, Place::argument(2))?;
+            self.operand(&next.1, Rank::argument(2))?;
         }
         Ok(())
     }

@@ -5,7 +5,7 @@ ghost use Rattle.ast_layer.specs.Nodes.{block_node};
 ghost use Rattle.ast_layer.specs.SyntaxLayer.{children_edges, children_nodes, children_size, expressions, function_edges, function_nodes, function_size, item_parts, name_token, type_token};
 
 use crate::builder::Builder;
-use crate::node::{Form, Node, Place};
+use crate::node::{Form, Node, Rank};
 use crate::walk::MAX_NODES;
 use c_tree::{Assign, Block, BlockItem, Core, Declarator, Item, Spec, Specs, StmtKind};
 use std::alloc::AllocError;
@@ -84,7 +84,7 @@ impl<'s> Builder<'s> {
             form: Form::Method,
             token: name,
             line,
-            place: Place::child(order),
+            rank: Rank::child(order),
         })?;
         self.child(method, method + 1)?;
         self.body(body)?;
@@ -94,7 +94,7 @@ impl<'s> Builder<'s> {
             form: Form::MethodReturn,
             token: type_of(specs),
             line,
-            place: Place::child(2),
+            rank: Rank::child(2),
         })
     }
 
@@ -118,7 +118,7 @@ impl<'s> Builder<'s> {
             form: Form::Block,
             token: brace,
             line,
-            place: Place::child(1),
+            rank: Rank::child(1),
         })?;
         self.statements(body.items.items(), block)
     }
@@ -139,7 +139,7 @@ impl<'s> Builder<'s> {
                 order += 1;
                 let at = self.count();
                 self.child(block, at)?;
-                self.assign(part, Place::child(order))?;
+                self.assign(part, Rank::child(order))?;
             }
         }
         Ok(())

@@ -23,7 +23,7 @@ pub(crate) enum Form {
 /// The place of a node among its parent's children, from 1, and where it is an argument its place
 /// among the arguments.
 #[derive(Clone, Copy, Debug)]
-pub(crate) struct Place {
+pub(crate) struct Rank {
     pub(crate) order: u32,
     pub(crate) argument_index: Option<u32>,
 }
@@ -34,25 +34,25 @@ pub(crate) struct Node {
     pub(crate) form: Form,
     pub(crate) token: Option<u32>,
     pub(crate) line: u32,
-    pub(crate) place: Place,
+    pub(crate) rank: Rank,
 }
 
-impl Place {
-    /// The place of a child that is no argument.
-    pub(crate) fn child(order: u32) -> Place
+impl Rank {
+    /// The rank of a child that is no argument.
+    pub(crate) fn child(order: u32) -> Rank
         ensures { result ≡ child order }
     {
-        Place {
+        Rank {
             order,
             argument_index: None,
         }
     }
 
-    /// The place of an argument of an operator.
-    pub(crate) fn argument(order: u32) -> Place
+    /// The rank of an argument of an operator.
+    pub(crate) fn argument(order: u32) -> Rank
         ensures { result ≡ argument order }
     {
-        Place {
+        Rank {
             order,
             argument_index: Some(order),
         }

@@ -1,6 +1,6 @@
 ghost use Rattle.std.specs.Prelude.{◌≡◌, [], slice_get, slice_range};
 ghost use Rattle.std.specs.Option.{option_map, unwrap_or};
-ghost use Rattle.ast_layer.specs.Source.{file_of, filename_at, line_at, place_of, presumed_of, spelling_at, token_of};
+ghost use Rattle.ast_layer.specs.Source.{file_of, presumed_file_at, presumed_line_at, place_of, presumed_of, spelling_at, token_of};
 
 use c_lexer::Token;
 use joern_io::Bytes;
@@ -44,7 +44,7 @@ impl<'s> Source<'s> {
 
     /// The line of a token, and 0 where there is none.
     pub(crate) fn line(&self, number: Option<u32>) -> u32
-        ensures { result ≡ line_at (file_of self.now) number }
+        ensures { result ≡ presumed_line_at (file_of self.now) number }
     {
         match self.place(number) {
             Some(place) => place.line,
@@ -54,7 +54,7 @@ impl<'s> Source<'s> {
 
     /// The name of the file of a token, and none where there is no token.
     pub(crate) fn filename(&self, number: Option<u32>) -> &'s [u8]
-        ensures { result.now ≡ filename_at (file_of self.now) number }
+        ensures { result.now ≡ presumed_file_at (file_of self.now) number }
     {
         match self.place(number) {
             Some(place) => name_at(self.files, place.file),

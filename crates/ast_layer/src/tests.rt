@@ -143,21 +143,26 @@ fn a_file_without_functions_has_three_nodes(rt: HostRuntime) -> Result<(), Fail>
     assert_lines(&rt, rt.alloc(), "", &unit, want)
 }
 
-// `# 7 "x.c"`: the next line is line 7 of `x.c`. The line marker is no token of the tree.
+// Each token has a place of its own, and `f` is in another file than the others.
 #[test]
 fn a_function_has_the_file_and_the_line_of_its_name(rt: HostRuntime) -> Result<(), Fail> {
     let alloc = rt.alloc();
-    let text = "# 7 \"x.c\"\nint f(void){}";
+    let text = "int f(void){}";
     let tokens = lex(alloc, text.as_bytes())?;
-    let Some((_, kept)) = tokens.split_first() else {
-        panic!(rt; "{text} has tokens");
-    };
-    let places = [Place { file: 1, line: 7 }; 7];
+    let places = [
+        Place { file: 0, line: 5 },
+        Place { file: 1, line: 7 },
+        Place { file: 0, line: 8 },
+        Place { file: 0, line: 9 },
+        Place { file: 0, line: 10 },
+        Place { file: 0, line: 11 },
+        Place { file: 0, line: 12 },
+    ];
     let unit = unit_of(alloc, List::new(alloc), 6)?;
     let want = "node 0 METHOD NAME=<global> FILENAME=a.c LINE_NUMBER=1 ORDER=1\n\
         node 1 BLOCK LINE_NUMBER=1 ORDER=1\n\
         node 2 METHOD NAME=f FILENAME=x.c LINE_NUMBER=7 ORDER=1\n\
-        node 3 BLOCK LINE_NUMBER=7 ORDER=1\n\
+        node 3 BLOCK LINE_NUMBER=11 ORDER=1\n\
         node 4 METHOD_RETURN LINE_NUMBER=7 ORDER=2 TYPE_FULL_NAME=int\n\
         node 5 METHOD_RETURN LINE_NUMBER=1 ORDER=2 TYPE_FULL_NAME=void\n\
         edge 0 AST 1\n\
@@ -165,7 +170,7 @@ fn a_function_has_the_file_and_the_line_of_its_name(rt: HostRuntime) -> Result<(
         edge 1 AST 2\n\
         edge 2 AST 3\n\
         edge 2 AST 4\n";
-    assert_lines_at(&rt, alloc, text, kept, &places, &unit, want)
+    assert_lines_at(&rt, alloc, text, &tokens, &places, &unit, want)
 }
 
 #[test]

@@ -39,8 +39,8 @@ impl GraphView for LayerView<'_> {
             code: self.source.code_text(&node),
             filename: self.source.filename_text(&node),
             line_number: Some(node.line),
-            order: Some(node.place.order),
-            argument_index: node.place.argument_index,
+            order: Some(node.rank.order),
+            argument_index: node.rank.argument_index,
             type_full_name: self.source.type_text(&node),
             ..NodeView::bare(node.form.label())
         }
@@ -50,8 +50,8 @@ impl GraphView for LayerView<'_> {
         self.layer.edges.len() as u32
     }
 
-    fn edge(&self, place: u32) -> EdgeView<'_> {
-        let edge = self.layer.edges[place as usize];
+    fn edge(&self, rank: u32) -> EdgeView<'_> {
+        let edge = self.layer.edges[rank as usize];
         EdgeView {
             from: edge.from,
             kind: edge.kind,

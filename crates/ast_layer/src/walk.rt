@@ -10,7 +10,7 @@ ghost use Rattle.ast_layer.specs.Layer.{layer_edges, layer_nodes};
 
 use crate::builder::Builder;
 use crate::layer::SyntaxLayer;
-use crate::node::{Form, Node, Place};
+use crate::node::{Form, Node, Rank};
 use crate::source::Source;
 use c_tree::{Item, Unit};
 use std::alloc::{AllocError, Global};
@@ -59,14 +59,14 @@ impl<'s> Builder<'s> {
             form: Form::GlobalMethod,
             token: None,
             line: 1,
-            place: Place::child(1),
+            rank: Rank::child(1),
         })?;
         self.child(0, 1)?;
         self.node(Node {
             form: Form::Block,
             token: None,
             line: 1,
-            place: Place::child(1),
+            rank: Rank::child(1),
         })?;
         self.functions(unit.items.items())?;
         let end = self.count();
@@ -75,7 +75,7 @@ impl<'s> Builder<'s> {
             form: Form::GlobalReturn,
             token: None,
             line: 1,
-            place: Place::child(2),
+            rank: Rank::child(2),
         })
     }
 

@@ -290,5 +290,5 @@ some_stripping tokens =
     let all = strips_exist tokens (length tokens) None 0 (omega arith) in
     elim all.ends [
       | inl end ↦ inl (all.list, record { stop = all.stop; strips = all.strips; end = end })
-      | inr bad ↦ inr (all.stop, record { before = all.list; strips = all.strips; bad = bad })
+      | inr bad ↦ inr (all.stop, record { kept = all.list; strips = all.strips; bad = bad })
     ]

@@ -19,7 +19,7 @@ loop-kind-preserved-in-Keep c = λ rest stop strips.
     subst (λ (xs : List ℕ). Strips c.args.tokens.now None 0 xs stop) (sym same) all
 
 stops_at : (tokens : List Token) (xs : List ℕ) (at : ℕ) → IsBadAttribute tokens at → Strips tokens None 0 (xs ++ []) at → StopsStripping tokens at
-stops_at tokens xs at bad strips = record { before = xs ++ []; strips = strips; bad = bad }
+stops_at tokens xs at bad strips = record { kept = xs ++ []; strips = strips; bad = bad }
 
 pub returns-in-Refuse-clause-bad_attribute : goal.returns-in-Refuse-clause-bad_attribute
 returns-in-Refuse-clause-bad_attribute c = λ at is.

@@ -20,7 +20,7 @@ pub loop-left-preserved : goal.loop-left-preserved
 loop-left-preserved c =
     let more : c.loop-left.left ≡ (c.loop-left.left - 1) + 1 = omega arith in
     let below : c.loop-left.left - 1 < length c.items-rest.result.now = omega arith in
-    let nodes = front-nodes c.args.self.now.file c.loop-left.place c.args.binary.now.first c.items-rest.result.now _ _ _ more below c.index-rest-left.is in
+    let nodes = front-nodes c.args.self.now.file c.loop-left.rank c.args.binary.now.first c.items-rest.result.now _ _ _ more below c.index-rest-left.is in
     let edges = front-edges (length c.loop-left.self.nodes) c.args.binary.now.first c.items-rest.result.now _ _ _ more below c.index-rest-left.is in (
       c.in_ok-arguments.ensures.file ∙ c.in_ok-call.ensures.file ∙ c.loop-left.invariant.0,
       omega arith,

@@ -11,9 +11,9 @@ invariant-loop-left l =
     (l.self.file ≡ l.fn.self.file)
     × (l.left ≤ length l.rest)
     × (length l.self.nodes + (l.left + (length l.rest + 1)) ≤ MAX_NODES)
-    × (l.self.nodes ++ (grouped_nodes l.fn.self.file l.place (to_the_left (Operand l.binary.first) (take l.left l.rest))
+    × (l.self.nodes ++ (grouped_nodes l.fn.self.file l.rank (to_the_left (Operand l.binary.first) (take l.left l.rest))
     ++ operands_nodes l.fn.self.file (drop l.left l.rest))
-    ≡ l.fn.self.nodes ++ grouped_nodes l.fn.self.file l.fn.place (grouped_binary l.binary))
+    ≡ l.fn.self.nodes ++ grouped_nodes l.fn.self.file l.fn.rank (grouped_binary l.binary))
     × (l.self.edges ++ grouped_edges (length l.self.nodes) (to_the_left (Operand l.binary.first) (take l.left l.rest))
     ≡ l.fn.self.edges ++ grouped_edges (length l.fn.self.nodes) (grouped_binary l.binary))
 

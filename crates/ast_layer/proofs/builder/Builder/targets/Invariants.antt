@@ -9,7 +9,7 @@ abbrev pub invariant-loop-target : goal.invariant-loop-target
 invariant-loop-target l =
     (l.self.file ≡ l.fn.self.file)
     × (length l.self.nodes + grouped_size (to_the_right (drop l.target-index l.targets) (grouped_binary l.assign.value.last)) ≤ MAX_NODES)
-    × (l.self.nodes ++ grouped_nodes l.fn.self.file l.place (to_the_right (drop l.target-index l.targets) (grouped_binary l.assign.value.last))
-    ≡ l.fn.self.nodes ++ grouped_nodes l.fn.self.file l.fn.place (grouped_assign l.assign))
+    × (l.self.nodes ++ grouped_nodes l.fn.self.file l.rank (to_the_right (drop l.target-index l.targets) (grouped_binary l.assign.value.last))
+    ≡ l.fn.self.nodes ++ grouped_nodes l.fn.self.file l.fn.rank (grouped_assign l.assign))
     × (l.self.edges ++ grouped_edges (length l.self.nodes) (to_the_right (drop l.target-index l.targets) (grouped_binary l.assign.value.last))
     ≡ l.fn.self.edges ++ grouped_edges (length l.fn.self.nodes) (grouped_assign l.assign))
