@@ -1,12 +1,28 @@
 //! Files that are read and files that are not, and the trees of two of them.
 
+ghost use Rattle.std.specs.Prelude.{◌<◌, length, IfOk};
+ghost use Rattle.std.specs.List.{All};
+ghost use Rattle.c_lexer.specs.Reading.{IsWithin};
+
 use crate::{GrammarStop, read_unit};
-use c_lexer::lex;
+use c_lexer::laws::law_within_the_text;
 use c_lexer::mark::{
     MARK_LEFT_BRACE, MARK_LEFT_PAREN, MARK_RIGHT_BRACE, MARK_RIGHT_PAREN, MARK_SEMICOLON,
 };
+use c_lexer::{LexStop, Token, lex};
 use c_tree::{BaseForm, BlockItem, Item, Slot, StmtKind, Want, spell};
+use std::alloc::Global;
 use std::test::Fail;
+
+/// The tokens of a short text, which stand in it.
+fn tokens_of(alloc: Global, text: &[u8]) -> Result<Vec<Token>, LexStop>
+    requires { length text.now < 100 }
+    ensures few { IfOk result (λ tokens. length tokens.items < 100) }
+    ensures within { IfOk result (λ tokens. All (IsWithin text.now) tokens.items) }
+{
+    law_within_the_text();
+    lex(alloc, text)
+}
 
 #[test]
 fn a_file_of_functions_of_sums_and_assignments_is_read(rt: HostRuntime) -> Result<(), Fail> {
@@ -21,7 +37,7 @@ fn a_file_of_functions_of_sums_and_assignments_is_read(rt: HostRuntime) -> Resul
         b"int f(void){} int g(void){f+g+f;}".as_slice(),
     ] {
         assert!(rt; text.len() < 100);
-        let tokens = lex(rt.alloc(), text)?;
+        let tokens = tokens_of(rt.alloc(), text)?;
         assert!(rt; read_unit(rt.alloc(), text, &tokens).is_ok());
     }
     Ok(())
@@ -50,7 +66,7 @@ fn a_file_of_another_form_is_refused(rt: HostRuntime) -> Result<(), Fail> {
         b"x;".as_slice(),
     ] {
         assert!(rt; text.len() < 100);
-        let tokens = lex(rt.alloc(), text)?;
+        let tokens = tokens_of(rt.alloc(), text)?;
         let stop = read_unit(rt.alloc(), text, &tokens).err();
         assert_eq!(rt; stop, Some(GrammarStop::Unbuilt));
     }
@@ -61,7 +77,7 @@ fn a_file_of_another_form_is_refused(rt: HostRuntime) -> Result<(), Fail> {
 #[test]
 fn a_tree_spells_the_tokens_of_its_file(rt: HostRuntime) -> Result<(), Fail> {
     let text = b"int f(void){x=1;}";
-    let tokens = lex(rt.alloc(), text)?;
+    let tokens = tokens_of(rt.alloc(), text)?;
     let unit = read_unit(rt.alloc(), text, &tokens)?;
     let symbols = spell(rt.alloc(), &unit)?;
     let wants = [
@@ -89,7 +105,7 @@ fn a_tree_spells_the_tokens_of_its_file(rt: HostRuntime) -> Result<(), Fail> {
 #[test]
 fn what_stands_before_an_equal_sign_is_a_target(rt: HostRuntime) -> Result<(), Fail> {
     let text = b"int f(void){a=b=1+c;}";
-    let tokens = lex(rt.alloc(), text)?;
+    let tokens = tokens_of(rt.alloc(), text)?;
     let unit = read_unit(rt.alloc(), text, &tokens)?;
     let items = unit.items.items();
     assert_eq!(rt; items.len(), 1);
