@@ -32,7 +32,7 @@ pub usage_line_is : (a : Answer) (end : Status) (before now : Option (List ℕ))
 usage_line_is answer.Usage end before now faults_before faults (inl (same, taken)) is = taken
 usage_line_is (answer.ReadFault name) end before now faults_before faults (inl (same, taken)) is = absurd cc
 usage_line_is answer.TooLarge end before now faults_before faults (inl (same, taken)) is = absurd cc
-usage_line_is (answer.Unbuilt name) end before now faults_before faults (inl (same, taken)) is = absurd cc
+usage_line_is (answer.Refused name refusal) end before now faults_before faults (inl (same, taken)) is = absurd cc
 usage_line_is (answer.Dump name) end before now faults_before faults (inl (same, taken)) is = absurd cc
 usage_line_is answer.NoMemory end before now faults_before faults (inl (same, taken)) is = absurd cc
 usage_line_is a end before now faults_before faults (inr (same, rose, taken)) is = absurd cc

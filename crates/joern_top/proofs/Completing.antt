@@ -23,7 +23,7 @@ completes_written words held faults_before faults (answer.ReadFault name) end de
 completes_written words held faults_before faults answer.NoMemory end decided blames no_fault same = inr same
 completes_written words held faults_before faults answer.Usage end decided blames no_fault same = inl (outcome_of answer.Usage, decided tt, same)
 completes_written words held faults_before faults answer.TooLarge end decided blames no_fault same = inl (outcome_of answer.TooLarge, decided tt, same)
-completes_written words held faults_before faults (answer.Unbuilt name) end decided blames no_fault same = inl (outcome_of (answer.Unbuilt name), decided tt, same)
+completes_written words held faults_before faults (answer.Refused name refusal) end decided blames no_fault same = inl (outcome_of (answer.Refused name refusal), decided tt, same)
 completes_written words held faults_before faults (answer.Dump name) end decided blames no_fault same = inl (outcome_of (answer.Dump name), decided tt, same)
 
 pub completes : (words : List (List ℕ)) (held : Option Held) (faults_before faults : ℕ) (a : Answer) (end : Status)

@@ -27,7 +27,7 @@ decided_from_answer (answer.ReadFault name) end same is = let P : Status → Typ
 decided_from_answer answer.NoMemory end same is = let P : Status → Type 0 = IsAnswer in subst P same is
 decided_from_answer answer.Usage end same is = tt
 decided_from_answer answer.TooLarge end same is = tt
-decided_from_answer (answer.Unbuilt name) end same is = tt
+decided_from_answer (answer.Refused name refusal) end same is = tt
 decided_from_answer (answer.Dump name) end same is = tt
 
 pub no_answer_at_write_fault : (end : Status) → end ≡ status.WriteFault → IsAnswer end → ⊥
@@ -38,7 +38,7 @@ pub never_write_fault : (a : Answer) → (outcome_of a).status ≡ status.WriteF
 never_write_fault answer.Usage is = cc
 never_write_fault (answer.ReadFault name) is = cc
 never_write_fault answer.TooLarge is = cc
-never_write_fault (answer.Unbuilt name) is = cc
+never_write_fault (answer.Refused name refusal) is = cc
 never_write_fault (answer.Dump name) is = cc
 never_write_fault answer.NoMemory is = cc
 
@@ -51,6 +51,6 @@ at_read_fault (answer.ReadFault name) place is P here =
     subst Q first (here name)
 at_read_fault answer.Usage place is P here = absurd cc
 at_read_fault answer.TooLarge place is P here = absurd cc
-at_read_fault (answer.Unbuilt name) place is P here = absurd cc
+at_read_fault (answer.Refused name refusal) place is P here = absurd cc
 at_read_fault (answer.Dump name) place is P here = absurd cc
 at_read_fault answer.NoMemory place is P here = absurd cc

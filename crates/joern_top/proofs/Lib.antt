@@ -4,5 +4,9 @@ pub mod ReadFaults
 pub mod WriteFaults
 pub mod Completing
 pub mod OneOutcome
-pub mod FewTokens
+pub mod Lines
+pub mod Standing
+pub mod Keeping
+pub mod Presuming
+pub mod Refusing
 pub mod FewNodes

@@ -38,7 +38,7 @@ prefix_of words held faults_before faults (answer.ReadFault name) before now dec
 prefix_of words held faults_before faults answer.NoMemory before now decided blames (count, below, taken) = absurd (omega arith)
 prefix_of words held faults_before faults answer.Usage before now decided blames prefix = inl (outcome_of answer.Usage, decided tt, prefix)
 prefix_of words held faults_before faults answer.TooLarge before now decided blames prefix = inl (outcome_of answer.TooLarge, decided tt, prefix)
-prefix_of words held faults_before faults (answer.Unbuilt name) before now decided blames prefix = inl (outcome_of (answer.Unbuilt name), decided tt, prefix)
+prefix_of words held faults_before faults (answer.Refused name refusal) before now decided blames prefix = inl (outcome_of (answer.Refused name refusal), decided tt, prefix)
 prefix_of words held faults_before faults (answer.Dump name) before now decided blames prefix = inl (outcome_of (answer.Dump name), decided tt, prefix)
 
 pub write_fault_prefix_is : (words : List (List ℕ)) (held : Option Held) (faults_before faults : ℕ) (a : Answer) (end : Status)

@@ -2,19 +2,19 @@
 use Rattle.std.specs.Prelude.{ℕ, ◌≡◌, ◌⊎◌, List, [], Option}
 use Rattle.joern_io.specs.Faults.{Rose}
 use Rattle.joern_io.specs.Writing.{Appends, AppendsProperPrefix}
-use Rattle.joern_top.specs.Reading.{read_graph}
+use Rattle.joern_top.specs.Reading.{refusal_outcome, read_graph}
 use Rattle.joern_top.specs.declared.status.Status.{Status}
 use Rattle.joern_top.specs.declared.status.Status.TheVariants as status
 use Rattle.joern_top.specs.declared.answer.Answer.{Answer}
 use Rattle.joern_top.specs.declared.answer.Answer.TheVariants as answer
-use Rattle.joern_top.specs.Run.{Outcome, outcome, usage_outcome, read_fault_outcome, large_file_outcome, unbuilt_outcome, graph_outcome}
+use Rattle.joern_top.specs.Run.{Outcome, outcome, usage_outcome, read_fault_outcome, large_file_outcome, graph_outcome}
 
 -- the status and the bytes of an answer
 abbrev pub outcome_of : Answer → Outcome
 outcome_of answer.Usage = usage_outcome
 outcome_of (answer.ReadFault name) = read_fault_outcome name.now
 outcome_of answer.TooLarge = large_file_outcome
-outcome_of (answer.Unbuilt name) = unbuilt_outcome name.now
+outcome_of (answer.Refused name refusal) = refusal_outcome name.now refusal
 outcome_of (answer.Dump read) = graph_outcome (read_graph read)
 outcome_of answer.NoMemory = outcome status.NoMemory []
 

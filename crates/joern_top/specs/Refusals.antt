@@ -8,6 +8,9 @@ use Rattle.joern_top.specs.declared.status.What.TheVariants as what
 
 -- how a reason is spelled
 abbrev pub reason_text : Reason → List ℕ
+reason_text reason.Byte = codes "byte"
+reason_text reason.Unclosed = codes "unclosed"
+reason_text reason.Attribute = codes "attribute"
 reason_text reason.Unbuilt = codes "unbuilt"
 
 -- how what there is too much of is spelled

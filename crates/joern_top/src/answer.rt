@@ -6,6 +6,7 @@ ghost use Rattle.joern_top.specs.Run.{IsOutcome, IsFileOutcome};
 ghost use Rattle.joern_top.specs.Words.{Dump, command};
 
 use crate::read::ReadSource;
+use crate::refusal::Refusal;
 use crate::source::{MAX_FILE_BYTES, SourceStop, read_source};
 use crate::words::{Command, read_words};
 use joern_io::{Files, ReadStop, read_all};
@@ -18,8 +19,8 @@ pub(crate) enum Answer<'a> {
     /// The file of this name could not be read.
     ReadFault { name: &'a str },
     TooLarge,
-    /// The source of this name is outside the part of the language that is built.
-    Unbuilt { name: &'a str },
+    /// The source of this name is refused.
+    Refused { name: &'a str, refusal: Refusal },
     /// The syntax layer of a source.
     Dump { read: ReadSource<'a> },
     NoMemory,
@@ -72,7 +73,7 @@ fn source_answer<'a>(alloc: Global, name: &'a str, bytes: Vec<u8>) -> Answer<'a>
 {
     match read_source(alloc, name, bytes) {
         Ok(read) => Answer::Dump { read },
-        Err(SourceStop::Unbuilt) => Answer::Unbuilt { name },
+        Err(SourceStop::Refused(refusal)) => Answer::Refused { name, refusal },
         Err(SourceStop::Memory) => Answer::NoMemory,
     }
 }

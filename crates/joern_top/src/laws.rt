@@ -6,8 +6,9 @@ ghost use Rattle.joern_top.specs.declared.status.Status.TheVariants as status;
 ghost use Rattle.joern_top.specs.Headline.{CanAnswer};
 ghost use Rattle.joern_top.specs.Run.{Outcome, IsOutcome};
 
-use c_lexer::laws::law_one_reading;
+use c_lexer::laws::{law_one_marker, law_one_reading};
 use first_grammar::laws::law_one_unit;
+use line_marks::laws::law_one_stripping;
 
 /// The words and the held files have at most one outcome.
 pub fn law_one_outcome()
@@ -15,6 +16,8 @@ pub fn law_one_outcome()
         IsOutcome words held o → IsOutcome words held p → o ≡ p }
 {
     law_one_reading();
+    law_one_stripping();
+    law_one_marker();
     law_one_unit();
 }
 
@@ -23,4 +26,7 @@ pub fn law_one_outcome()
 pub fn law_can_answer()
     ensures { (words : List (List ℕ)) (held : Held) (o : Outcome) →
         CanAnswer words held → IsOutcome words held o → o.status ≡ status.Ok }
-{}
+{
+    law_one_reading();
+    law_one_stripping();
+}

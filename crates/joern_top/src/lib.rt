@@ -3,8 +3,10 @@
 #![tactic(auto)]
 
 mod answer;
+mod kept;
 pub mod laws;
 mod read;
+mod refusal;
 mod source;
 mod status;
 #[cfg(test)]

@@ -1,5 +1,6 @@
 ghost use Rattle.std.specs.Prelude.{◌≡◌};
 ghost use Rattle.joern_top.specs.Status.{status_code};
+ghost use Rattle.joern_top.specs.Refusals.{reason_text};
 
 /// How a run ended.
 #[derive(Clone, Copy, Debug, PartialEq, Eq)]
@@ -23,6 +24,12 @@ pub enum Status {
 /// Why a source is refused.
 #[derive(Clone, Copy, Debug, PartialEq, Eq)]
 pub enum Reason {
+    /// No token begins with the byte.
+    Byte,
+    /// The comment, the character constant or the string literal that begins there does not end.
+    Unclosed,
+    /// No balanced parentheses follow the `__attribute__` that begins there.
+    Attribute,
     /// It is no file of the part of the language that is built.
     Unbuilt,
 }
@@ -47,6 +54,20 @@ impl Status {
             Status::WriteFault => 7,
             Status::Limit { .. } => 8,
             Status::NoMemory => 9,
+        }
+    }
+}
+
+impl Reason {
+    /// The reason as it is printed.
+    pub(crate) fn text(self) -> &'static str
+        ensures { result.now ≡ reason_text self }
+    {
+        match self {
+            Reason::Byte => "byte",
+            Reason::Unclosed => "unclosed",
+            Reason::Attribute => "attribute",
+            Reason::Unbuilt => "unbuilt",
         }
     }
 }

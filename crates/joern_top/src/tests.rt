@@ -94,14 +94,130 @@ fn an_assignment_has_its_target_and_its_value(rt: HostRuntime) -> Result<(), Fai
     Ok(())
 }
 
+// Line 1 of the text is a marker, and says that line 2 is line 7 of `x.c`.
+#[test]
+fn a_function_has_the_file_and_the_line_that_a_marker_says(rt: HostRuntime) -> Result<(), Fail> {
+    let lines = "node 0 METHOD NAME=<global> FILENAME=a.c LINE_NUMBER=1 ORDER=1\n\
+        node 1 BLOCK LINE_NUMBER=1 ORDER=1\n\
+        node 2 METHOD NAME=f FILENAME=x.c LINE_NUMBER=7 ORDER=1\n\
+        node 3 BLOCK LINE_NUMBER=7 ORDER=1\n\
+        node 4 METHOD_RETURN LINE_NUMBER=7 ORDER=2 TYPE_FULL_NAME=int\n\
+        node 5 METHOD_RETURN LINE_NUMBER=1 ORDER=2 TYPE_FULL_NAME=void\n\
+        edge 0 AST 1\n\
+        edge 0 AST 5\n\
+        edge 1 AST 2\n\
+        edge 2 AST 3\n\
+        edge 2 AST 4\n";
+    let bytes = Vec::from_slice(rt.alloc(), b"# 7 \"x.c\"\nint f(void){}")?;
+    let files = shelf(rt.alloc(), bytes, 8, &[])?;
+    let run = run_on(rt.alloc(), &["--do", "dump", "a.c"], files, 64, &[])?;
+    assert_eq!(rt; run.status, Status::Ok);
+    assert_eq!(rt; run.out.took(), lines.as_bytes());
+    Ok(())
+}
+
+// The parser reads `int f(void){}` in each.
+#[test]
+fn what_the_parser_does_not_keep_changes_no_line(rt: HostRuntime) -> Result<(), Fail> {
+    let lines = "node 0 METHOD NAME=<global> FILENAME=a.c LINE_NUMBER=1 ORDER=1\n\
+        node 1 BLOCK LINE_NUMBER=1 ORDER=1\n\
+        node 2 METHOD NAME=f FILENAME=a.c LINE_NUMBER=1 ORDER=1\n\
+        node 3 BLOCK LINE_NUMBER=1 ORDER=1\n\
+        node 4 METHOD_RETURN LINE_NUMBER=1 ORDER=2 TYPE_FULL_NAME=int\n\
+        node 5 METHOD_RETURN LINE_NUMBER=1 ORDER=2 TYPE_FULL_NAME=void\n\
+        edge 0 AST 1\n\
+        edge 0 AST 5\n\
+        edge 1 AST 2\n\
+        edge 2 AST 3\n\
+        edge 2 AST 4\n";
+    let cases: [&[u8]; 5] = [
+        b"int f(void){}",
+        b"/* a */ int f(void)<%%> // b",
+        b"__extension__ int __attribute__((a)) f(void) __asm__(\"g\") {}",
+        b"int f(void){}\n#pragma a",
+        b"# 0 \"b.c\"\n# 1 \"a.c\" 2\nint f(void){}",
+    ];
+    for bytes in cases {
+        let files = shelf(rt.alloc(), Vec::from_slice(rt.alloc(), bytes)?, 8, &[])?;
+        let run = run_on(rt.alloc(), &["--do", "dump", "a.c"], files, 64, &[])?;
+        assert_eq!(rt; run.status, Status::Ok, "{bytes:?}");
+        assert_eq!(rt; run.out.took(), lines.as_bytes(), "{bytes:?}");
+    }
+    Ok(())
+}
+
+#[test]
+fn a_refused_source_is_blamed_at_its_byte(rt: HostRuntime) -> Result<(), Fail> {
+    let cases: [(&[u8], u32, Reason, &[u8]); 9] = [
+        (
+            b"int f(void){x=$;}",
+            14,
+            Reason::Byte,
+            b"refused a.c:1:15 byte\n",
+        ),
+        (b"\n\n$", 2, Reason::Byte, b"refused a.c:3:1 byte\n"),
+        (b"x='';", 2, Reason::Byte, b"refused a.c:1:3 byte\n"),
+        // The line is that of the text, and not the one that the marker says.
+        (
+            b"# 7 \"x.c\"\nint $",
+            14,
+            Reason::Byte,
+            b"refused a.c:2:5 byte\n",
+        ),
+        (
+            b"int /* x",
+            4,
+            Reason::Unclosed,
+            b"refused a.c:1:5 unclosed\n",
+        ),
+        (
+            b"x;\n\"a",
+            3,
+            Reason::Unclosed,
+            b"refused a.c:2:1 unclosed\n",
+        ),
+        (
+            b"int a;\nint __attribute__((b) c;",
+            11,
+            Reason::Attribute,
+            b"refused a.c:2:5 attribute\n",
+        ),
+        // The token before it is not kept.
+        (
+            b"__extension__ __attribute__((",
+            14,
+            Reason::Attribute,
+            b"refused a.c:1:15 attribute\n",
+        ),
+        // A byte comes before an `__attribute__`, also where that stands further in front.
+        (
+            b"__attribute__(( $",
+            16,
+            Reason::Byte,
+            b"refused a.c:1:17 byte\n",
+        ),
+    ];
+    for (bytes, at, reason, line) in cases {
+        let files = shelf(rt.alloc(), Vec::from_slice(rt.alloc(), bytes)?, 8, &[])?;
+        let run = run_on(rt.alloc(), &["--do", "dump", "a.c"], files, 64, &[])?;
+        let refused = Status::SourceRefused {
+            file: 0,
+            at,
+            reason,
+        };
+        assert_eq!(rt; run.status, refused, "{bytes:?}");
+        assert_eq!(rt; run.status.code(), 3);
+        assert_eq!(rt; run.out.took(), line, "{bytes:?}");
+    }
+    Ok(())
+}
+
 #[test]
 fn a_file_outside_the_built_part_is_unbuilt(rt: HostRuntime) -> Result<(), Fail> {
-    let cases: [&[u8]; 9] = [
+    let cases: [&[u8]; 7] = [
         b"x",
-        b" ;",
-        b"\n\n$",
-        b"/* x */",
-        b"\x0E",
+        b"\n ;",
+        b"struct s { int a[3]; };",
         b"int f(void){x=1*2;}",
         b"char f(void){}",
         b"int f(void){} int f(void){}",

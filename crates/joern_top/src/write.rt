@@ -1,12 +1,13 @@
 ghost use Rattle.std.specs.Prelude.{◌≤◌};
-ghost use Rattle.joern_top.specs.Reading.{read_graph};
+ghost use Rattle.joern_top.specs.Reading.{refusal_outcome, read_graph};
 ghost use Rattle.joern_top.specs.Answers.{outcome_of, Writes};
-ghost use Rattle.joern_top.specs.Run.{outcome, read_fault_outcome, large_file_outcome, unbuilt_outcome, graph_outcome};
+ghost use Rattle.joern_top.specs.Run.{outcome, read_fault_outcome, large_file_outcome, graph_outcome};
 ghost use Rattle.graph_text.specs.LineParts.{line_text};
 
 use crate::answer::Answer;
 use crate::read::ReadSource;
-use crate::status::{Reason, Status, What};
+use crate::refusal::Refusal;
+use crate::status::{Status, What};
 use graph_text::{LinePart, print_graph, print_line};
 use joern_io::{Failed, Sink};
 
@@ -20,7 +21,7 @@ pub(crate) fn write_answer<S: Sink>(answer: &Answer<'_>, out: &mut S) -> Status
         Answer::Usage => refuse(Status::Usage, &[LinePart::Verbatim("usage")], out),
         Answer::ReadFault { name } => refuse_file(name, out),
         Answer::TooLarge => refuse_large_file(out),
-        Answer::Unbuilt { name } => refuse_source(name, out),
+        Answer::Refused { name, refusal } => refuse_source(name, refusal, out),
         Answer::Dump { read } => write_dump(read, out),
         Answer::NoMemory => Status::NoMemory,
     }
@@ -72,26 +73,28 @@ fn refuse_large_file<S: Sink>(out: &mut S) -> Status
     )
 }
 
-/// Prints that the source of this name is unbuilt.
-fn refuse_source<S: Sink>(name: &str, out: &mut S) -> Status
+/// Prints that the source of this name is refused, where and why.
+fn refuse_source<S: Sink>(name: &str, refusal: &Refusal, out: &mut S) -> Status
     ensures never_falls { S.faults out.old ≤ S.faults out.new }
-    ensures written { Writes (unbuilt_outcome name.now)
+    ensures written { Writes (refusal_outcome name.now refusal.now)
         (S.took out.old) (S.took out.new) (S.faults out.old) (S.faults out.new) result }
 {
+    let status = Status::SourceRefused {
+        file: 0,
+        at: refusal.at,
+        reason: refusal.reason,
+    };
     refuse(
-        Status::SourceRefused {
-            file: 0,
-            at: 0,
-            reason: Reason::Unbuilt,
-        },
+        status,
         &[
             LinePart::Verbatim("refused "),
             LinePart::Value(name.as_bytes()),
             LinePart::Verbatim(":"),
-            LinePart::Number(1),
+            LinePart::Number(refusal.line),
             LinePart::Verbatim(":"),
-            LinePart::Number(1),
-            LinePart::Verbatim(" unbuilt"),
+            LinePart::Number(refusal.column),
+            LinePart::Verbatim(" "),
+            LinePart::Verbatim(refusal.reason.text()),
         ],
         out,
     )

@@ -1,5 +1,16 @@
-use Rattle.joern_top.proofs.OneOutcome.{can_answer}
+use Rattle.joern_top.proofs.OneOutcome.{Unique, can_answer}
 use Rattle.joern_top.proofs.laws.law_can_answer.Goals as goal
 
 pub returns : goal.returns
-returns c = can_answer
+returns c =
+    let reading = c.law_one_reading.ensures in
+    let stripping = c.law_one_stripping.ensures in
+    let unique : Unique = record {
+      tokens = reading.one_list;
+      stop = reading.one_stop;
+      tokens_or_stop = reading.never_both;
+      kept = stripping.kept;
+      bad = stripping.stop;
+      kept_or_bad = stripping.not_both;
+    } in
+    can_answer unique
