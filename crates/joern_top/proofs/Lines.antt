@@ -22,11 +22,13 @@ line_stays bytes at inside other =
 abbrev other_bytes : ℕ → Bool
 other_bytes byte = not (byte == line_feed)
 
+-- so the column is one more than they are
 column_is : (bytes : List ℕ) (at : ℕ) → column_at bytes at ≡ suffix_len other_bytes (take at bytes) + 1
 column_is bytes at =
     let few = suffix_len-le-length other_bytes (take at bytes) in
     rw length-drop (omega (arith, few))
 
+-- behind a line feed is the first column
 pub column_first : (bytes : List ℕ) (at : ℕ) → at < length bytes → slice_index bytes at ≡ line_feed → column_at bytes (at + 1) ≡ 1
 column_first bytes at inside is =
     let yes : (slice_index bytes at == line_feed) ≡ true = eq-eqb _ _ is in
@@ -35,6 +37,7 @@ column_first bytes at inside is =
     let none = suffix_len-take_no other_bytes bytes (at + 1) 0 (omega arith) (omega arith) no in
     omega (arith, none, column_is bytes (at + 1))
 
+-- and behind another byte the next
 pub column_more : (bytes : List ℕ) (at : ℕ) → at < length bytes → (slice_index bytes at ≡ line_feed → ⊥) → column_at bytes (at + 1) ≡ column_at bytes at + 1
 column_more bytes at inside other =
     let no : (slice_index bytes at == line_feed) ≡ false = grind (arith, other) in

@@ -22,8 +22,8 @@ use Rattle.joern_top.specs.Run.IsSourceOutcome.{byte, unclosed, attribute, unbui
 use Rattle.joern_top.specs.Headline.{IsReadable, CanAnswer}
 use Rattle.joern_top.proofs.Standing.{one_standing}
 
--- Which parts of an outcome are one: a text's tokens or its stop, the tokens that are kept or the bad `__attribute__`,
--- what a marker says, and the tree.
+-- Which parts of an outcome are one: a text's tokens or its stop, and the tokens that are kept or the bad `__attribute__`,
+-- and never both.
 pub record Unique : Type 0 where
   pub tokens : (bytes : List ℕ) (first second : List Token) → AreTokensOf bytes first → AreTokensOf bytes second → first ≡ second
   pub stop : (bytes : List ℕ) (first second : ℕ) → StopsAt bytes first → StopsAt bytes second → first ≡ second
@@ -32,10 +32,12 @@ pub record Unique : Type 0 where
   pub bad : (tokens : List Token) (first second : ℕ) → StopsStripping tokens first → StopsStripping tokens second → first ≡ second
   pub kept_or_bad : (tokens : List Token) (kept : List ℕ) (bad : ℕ) → AreKept tokens kept → StopsStripping tokens bad → ⊥
 
+-- what a marker says is one
 abbrev pub OneMarker : Type 0
 OneMarker = (bytes : List ℕ) (from p q l m : ℕ) (f g : Option (List ℕ)) →
     IsMarkerOf bytes from p l f → IsMarkerOf bytes from q m g → (p ≡ q) × (l ≡ m) × (f ≡ g)
 
+-- the tree of tokens is one
 abbrev pub OneUnit : Type 0
 OneUnit = (bytes : List ℕ) (tokens : List Token) (first second : Unit) → IsFirstUnit bytes tokens first → IsFirstUnit bytes tokens second → first ≡ second
 
@@ -54,6 +56,7 @@ said_once one_marker bytes token (Some x) (Some y) first second =
     let file : x.file ≡ y.file = same.2 in
     ap (λ line. Some (said_of line x.file)) line ∙ ap (λ file. Some (said_of y.line file)) file
 
+-- tokens say one list of things
 says_once : OneMarker → (bytes : List ℕ) (tokens : List Token) (xs ys : List (Option Said)) →
     AllZip (Says bytes) tokens xs → AllZip (Says bytes) tokens ys → xs ≡ ys
 says_once one_marker bytes [] [] [] first second = refl
@@ -142,6 +145,7 @@ never_unbuilt unique bytes tokens others positions places kept also unit strippe
     let P : List Token → Type 0 = λ t. IsFirstUnit bytes t unit in
     none unit (subst P same.kept_same parsed)
 
+-- a source has one outcome
 one_source_outcome : Unique → OneMarker → OneUnit → (name bytes : List ℕ) (o p : Outcome) → IsSourceOutcome name bytes o → IsSourceOutcome name bytes p → o ≡ p
 one_source_outcome unique marker tree name bytes o p (byte at stop closed) (byte also again close) =
     one_stop_outcome unique name bytes at also reason.Byte stop again

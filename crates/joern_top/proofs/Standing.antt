@@ -44,7 +44,7 @@ all_standing P all (position ∷ positions) (x ∷ xs) each (is, stand) =
     let here = each position x (slice_get_within all position x is) in
     All-cons P x xs (subst P (get_or_from_slice_get all position x x is) here) (all_standing P all positions xs each stand)
 
--- of two lists that agree place by place, the items at the positions agree
+-- where two lists agree place by place, so do their items at a position
 at_both : {A B : Type 0} (R : A → B → Type 0) (v : A → B) (xs : List A) (ys : List B) → ((x : A) (y : B) → R x y → v x ≡ y) → AllZip R xs ys →
     (position : ℕ) (x : A) → slice_get xs position ≡ Some x → slice_get ys position ≡ Some (v x)
 at_both R v [] ys agree zip position x is = absurd cc
@@ -54,6 +54,7 @@ at_both R v (z ∷ xs) (y ∷ ys) agree (here, zip) zero x is =
     ap Some (sym (agree z y here) ∙ ap v same)
 at_both R v (z ∷ xs) (y ∷ ys) agree (here, zip) (suc position) x is = at_both R v xs ys agree zip position x is
 
+-- and their items at positions
 pub stand_for : {A B : Type 0} (R : A → B → Type 0) (v : A → B) (xs : List A) (ys : List B) → ((x : A) (y : B) → R x y → v x ≡ y) → AllZip R xs ys →
     (positions : List ℕ) (chosen : List A) → StandAt xs positions chosen → StandAt ys positions (map v chosen)
 stand_for R v xs ys agree zip [] [] stand = tt

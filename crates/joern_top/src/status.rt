@@ -30,7 +30,7 @@ pub enum Reason {
     Unclosed,
     /// No balanced parentheses follow the `__attribute__` that begins there.
     Attribute,
-    /// It is no file of the part of the language that is built.
+    /// It is no file of the part of the language that is built. No byte is blamed, and `at` is 0.
     Unbuilt,
 }
 
