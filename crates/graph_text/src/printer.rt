@@ -7,7 +7,7 @@ use joern_io::{Failed, Sink, write_all};
 use std::marker::Model;
 
 /// How many bytes wait at most.
-const ROOM: usize = 8192;
+const ROOM: usize = 65536;
 
 /// A fixed buffer before a sink. Callers see the bytes that wait in it, and whether the sink has
 /// answered with a fault: from then on nothing more is written, and `finish` says so.

@@ -136,23 +136,23 @@ fn a_value_is_escaped_byte_by_byte(rt: HostRuntime) -> Result<(), Fail> {
     Ok(())
 }
 
-// The buffer holds 8,192 bytes: longer texts go past it, in their order.
+// The buffer holds 65,536 bytes: longer texts go past it, in their order.
 #[test]
 fn a_line_longer_than_the_buffer_is_printed_whole(rt: HostRuntime) -> Result<(), Fail> {
-    let long = Vec::from_elem(rt.alloc(), b'a', 20_000)?;
-    let mut tape = Tape::new(rt.alloc(), 50_000, 4096, Vec::new(rt.alloc()))?;
+    let long = Vec::from_elem(rt.alloc(), b'a', 150_000)?;
+    let mut tape = Tape::new(rt.alloc(), 400_000, 4096, Vec::new(rt.alloc()))?;
     let line = [
         LinePart::Number(7),
         LinePart::Value(&long),
         LinePart::Verbatim(" "),
-        LinePart::Value(&long[..8191]),
+        LinePart::Value(&long[..65_535]),
     ];
     assert_eq!(rt; print_line(&line, &mut tape), Ok(()));
     let took = tape.took();
-    assert_eq!(rt; took.len(), 28_194);
+    assert_eq!(rt; took.len(), 215_538);
     assert_eq!(rt; took[0], b'7');
-    assert_eq!(rt; took[20_000], b'a');
-    assert_eq!(rt; took[20_001], b' ');
-    assert_eq!(rt; took[28_193], b'\n');
+    assert_eq!(rt; took[150_000], b'a');
+    assert_eq!(rt; took[150_001], b' ');
+    assert_eq!(rt; took[215_537], b'\n');
     Ok(())
 }
