@@ -1,64 +1,15 @@
 -- Whether a line marker or a pragma stands between two places.
-use Rattle.std.proofs.Common.{◌≡◌, ℕ, suc, zero, ◌+◌, ◌-◌, ◌<◌, ◌≤◌, ◌⊎◌, List, [], Option, Some, None, codes, length, slice_index, slice_range, refl, sym, arith, inl, inr}
+use Rattle.std.proofs.Common.{◌≡◌, ℕ, suc, zero, ◌+◌, ◌-◌, ◌<◌, ◌≤◌, List, Option, Some, None, codes, length, slice_index, slice_range, refl, arith, inl, inr}
 use Rattle.std.proofs.lemmas.Bool.{cases_eq}
-use Rattle.c_lexer.specs.Bytes.{line_feed, double_quote, number_sign, IsLineBlank, IsDigit}
+use Rattle.c_lexer.specs.Bytes.{double_quote, number_sign, IsDigit}
 use Rattle.c_lexer.specs.Lines.{AreLineBlanks, OnOneLine, BeginsLine, EndsLine}
-use Rattle.c_lexer.specs.Literals.{IsQuoted, IsText, text_prefixes}
+use Rattle.c_lexer.specs.Literals.{IsQuoted}
 use Rattle.c_lexer.specs.Directives.{IsGap, IsLineNumber, IsFileName, IsFilePart, AreFlags, none, flag, IsMarkerOf, IsLineMarker, IsPragma, digits_value, max_line}
-use Rattle.c_lexer.proofs.Decisions.{Decided, decided_by, both_or_not, either_or_not, no_or_not, most_or_not, less_or_not, same_or_not, each_or_not, some_or_not}
+use Rattle.c_lexer.proofs.ClassTests.{digit_or_not}
+use Rattle.c_lexer.proofs.Decisions.{Decided, decided_by, both_or_not, most_or_not, less_or_not, same_or_not, each_or_not, some_or_not}
 use Rattle.c_lexer.proofs.Lines.{inside}
-use Rattle.c_lexer.proofs.Literals.{text_form, literal_opening_once}
-use Rattle.c_lexer.proofs.LiteralTests.{text_or_not}
-
--- ---- Lines
-
--- a byte is a blank of a line or not
-line_blank_or_not : (byte : ℕ) → Decided (IsLineBlank byte)
-line_blank_or_not byte = grind arith
-
--- a byte is a digit or not
-digit_or_not : (byte : ℕ) → Decided (IsDigit byte)
-digit_or_not byte = grind arith
-
--- only blanks of one line stand between the places or not
-blanks_or_not : (bytes : List ℕ) (from to : ℕ) → Decided (AreLineBlanks bytes from to)
-blanks_or_not bytes = each_or_not (λ i. IsLineBlank (slice_index bytes i)) (λ i. line_blank_or_not (slice_index bytes i))
-
--- no line feed stands between the places or one does
-one_line_or_not : (bytes : List ℕ) (from to : ℕ) → Decided (OnOneLine bytes from to)
-one_line_or_not bytes = each_or_not (λ i. slice_index bytes i ≡ line_feed → ⊥) (λ i. no_or_not (slice_index bytes i ≡ line_feed) (cases_eq (slice_index bytes i) line_feed))
-
--- the line ends at the place or not
-ends_line_or_not : (bytes : List ℕ) (at : ℕ) → Decided (EndsLine bytes at)
-ends_line_or_not bytes at = either_or_not (at ≡ length bytes) (slice_index bytes at ≡ line_feed) (cases_eq at (length bytes)) (cases_eq (slice_index bytes at) line_feed)
-
--- the text or a line of it begins at the place
-abbrev IsStart : List ℕ → ℕ → Type 0
-IsStart bytes start = (start ≡ 0) ⊎ ((feed : ℕ) × (start ≡ feed + 1) × (slice_index bytes feed ≡ line_feed))
-
--- such a place or not
-start_or_not : (bytes : List ℕ) (start : ℕ) → Decided (IsStart bytes start)
-start_or_not bytes zero = inl (inl refl)
-start_or_not bytes (suc feed) =
-    elim (cases_eq (slice_index bytes feed) line_feed) [
-      | inl e ↦ inl (inr (feed, omega arith, e))
-      | inr other ↦ inr (λ s. elim s [
-        | inl e ↦ omega arith
-        | inr behind ↦ let next = behind.1 in let same : behind.0 ≡ feed = omega arith in other (rw same at behind.2)
-      ])
-    ]
-
--- only blanks stand before the place on its line or not
-begins_line_or_not : (bytes : List ℕ) (at : ℕ) → Decided (BeginsLine bytes at)
-begins_line_or_not bytes at =
-    decided_by _ (BeginsLine bytes at)
-    (λ s. record { start = s.0; before = s.1.0; is_start = s.1.1.0; blanks = s.1.1.1 })
-    (λ b. (b.start, (b.before, (b.is_start, b.blanks))))
-    (some_or_not (λ start. (start ≤ at) × (IsStart bytes start × AreLineBlanks bytes start at))
-    (λ start. both_or_not _ _ (most_or_not start at) (λ before.
-    both_or_not _ _ (start_or_not bytes start) (λ is_start.
-    blanks_or_not bytes start at)))
-    (at + 1) (λ start s. let before = s.0 in omega arith))
+use Rattle.c_lexer.proofs.LineTests.{blanks_or_not, one_line_or_not, ends_line_or_not, begins_line_or_not}
+use Rattle.c_lexer.proofs.LiteralTests.{quoted_or_not}
 
 -- ---- Parts of a line marker
 
@@ -78,8 +29,8 @@ abbrev HasNumber : List ℕ → ℕ → ℕ → Type 0
 HasNumber bytes from to = (line : ℕ) × IsLineNumber bytes from to line
 
 -- such a number or none
-number_or_not : (bytes : List ℕ) (from to : ℕ) → Decided (HasNumber bytes from to)
-number_or_not bytes from to =
+line_number_or_not : (bytes : List ℕ) (from to : ℕ) → Decided (HasNumber bytes from to)
+line_number_or_not bytes from to =
     decided_by ((from < to) × (((i : ℕ) → from ≤ i → i < to → IsDigit (slice_index bytes i)) × (digits_value 0 (slice_range bytes from to) ≤ max_line))) (HasNumber bytes from to)
     (λ n. (digits_value 0 (slice_range bytes from to), record { some = n.0; digits = n.1.0; value = refl; small = n.1.1 }))
     (λ n. let line = n.1 in (line.some, (line.digits, rw line.value line.small)))
@@ -96,43 +47,15 @@ number_within bytes from to n =
     let end = inside bytes (to - 1) (omega arith) in
     (inside bytes from (omega arith), omega arith)
 
--- quotes without a prefix are a string literal
-text_of_quotes : (bytes : List ℕ) (opening closing : ℕ) → IsQuoted bytes double_quote opening closing → IsText bytes opening (closing + 1)
-text_of_quotes bytes opening closing q =
-    let nothing : slice_range bytes opening opening ≡ [] = (let n : opening - opening ≡ 0 = omega arith in rw n refl) in
-    record {
-      opening = opening;
-      closing = closing;
-      forward = omega arith;
-      prefix = (0, omega arith, sym nothing);
-      quoted = q;
-      end = refl;
-    }
-
--- and a string literal that begins with a quote has no prefix
-quotes_of_text : (bytes : List ℕ) (opening closing : ℕ) → slice_index bytes opening ≡ double_quote → IsText bytes opening (closing + 1) → IsQuoted bytes double_quote opening closing
-quotes_of_text bytes opening closing quote t =
-    let first = literal_opening_once text_prefixes double_quote bytes opening (closing + 1) opening (omega arith) (λ i low high. absurd (omega arith)) (inr quote) text_form t in
-    let end = t.end in
-    let last : t.closing ≡ closing = omega arith in
-    rw (first, last) at t.quoted
-
--- quotes without a prefix stand at the places or not
-quotes_or_not : (bytes : List ℕ) (opening closing : ℕ) → Decided (IsQuoted bytes double_quote opening closing)
-quotes_or_not bytes opening closing =
-    decided_by ((slice_index bytes opening ≡ double_quote) × IsText bytes opening (closing + 1)) (IsQuoted bytes double_quote opening closing)
-    (λ t. quotes_of_text bytes opening closing t.0 t.1) (λ q. (q.opens, text_of_quotes bytes opening closing q))
-    (both_or_not _ _ (cases_eq (slice_index bytes opening) double_quote) (λ quote. text_or_not bytes opening (closing + 1)))
-
 -- the name of a file stands between the places or not
-name_or_not : (bytes : List ℕ) (from to : ℕ) → Decided ((name : List ℕ) × IsFileName bytes from to name)
-name_or_not bytes from zero = inr (λ n. let end = n.1.end in omega arith)
-name_or_not bytes from (suc closing) =
+file_name_or_not : (bytes : List ℕ) (from to : ℕ) → Decided ((name : List ℕ) × IsFileName bytes from to name)
+file_name_or_not bytes from zero = inr (λ n. let end = n.1.end in omega arith)
+file_name_or_not bytes from (suc closing) =
     decided_by _ ((name : List ℕ) × IsFileName bytes from (suc closing) name)
     (λ s. (slice_range bytes (s.0 + 1) closing, record { opening = s.0; closing = closing; gap = s.1.0; quoted = s.1.1; end = omega arith; name_is = refl }))
     (λ n. let file = n.1 in let end = file.end in let last : file.closing ≡ closing = omega arith in (file.opening, (file.gap, rw last at file.quoted)))
     (some_or_not (λ opening. IsGap bytes from opening × IsQuoted bytes double_quote opening closing)
-    (λ opening. both_or_not _ _ (gap_or_not bytes from opening) (λ gap. quotes_or_not bytes opening closing))
+    (λ opening. both_or_not _ _ (gap_or_not bytes from opening) (λ gap. quoted_or_not bytes double_quote opening closing))
     (length bytes) (λ opening s. let quote = s.1.opens in inside bytes opening (omega arith)))
 
 -- nothing or the name of a file stands between the places
@@ -149,7 +72,7 @@ file_part_or_not : (bytes : List ℕ) (from to : ℕ) → Decided (HasFilePart b
 file_part_or_not bytes from to =
     elim (cases_eq from to) [
       | inl e ↦ inl (None, e)
-      | inr some ↦ elim (name_or_not bytes from to) [
+      | inr some ↦ elim (file_name_or_not bytes from to) [
         | inl found ↦ inl (Some found.0, found.1)
         | inr no_name ↦ inr (λ f. no_file_part bytes from to some no_name f.0 f.1)
       ]
@@ -221,7 +144,7 @@ HasTail bytes number to = (past : ℕ) × (HasNumber bytes number past × HasRes
 tail_or_not : (bytes : List ℕ) (number to : ℕ) → Decided (HasTail bytes number to)
 tail_or_not bytes number to =
     some_or_not (λ past. HasNumber bytes number past × HasRest bytes past to)
-    (λ past. both_or_not _ _ (number_or_not bytes number past) (λ n. rest_or_not bytes past to (number_within bytes number past n).1))
+    (λ past. both_or_not _ _ (line_number_or_not bytes number past) (λ n. rest_or_not bytes past to (number_within bytes number past n).1))
     (length bytes + 1) (λ past t. let w = number_within bytes number past t.0 in omega arith)
 
 -- what stands behind the sign of a line marker

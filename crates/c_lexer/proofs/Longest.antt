@@ -41,6 +41,7 @@ kind_on_one_line bytes from to (Mark k) w s = mark_on_one_line bytes from to k s
 kind_on_one_line bytes from to Line w s = marker_on_one_line bytes from to s.0 s.1 s.2
 kind_on_one_line bytes from to Pragma w s = pragma_on_one_line bytes from to s
 
+-- so does the longest token
 pub longest_on_one_line : (bytes : List ℕ) (from to : ℕ) (kind : Kind) → IsLongest bytes from to kind → OnOneLine bytes from to
 longest_on_one_line bytes from to kind h = kind_on_one_line bytes from to kind h.within h.spelled
 
@@ -83,6 +84,7 @@ no_literal prefixes quote bytes from n to form some each ends no_quote l =
       | inr (inr h) ↦ ends (omega (arith, before.inside)) (before.each n (omega arith) h)
     ]
 
+-- nor any literal of the two kinds
 pub no_prefixed : (bytes : List ℕ) (from n : ℕ) → from < n → ((i : ℕ) → from ≤ i → i < n → IsWordByte (slice_index bytes i)) → (n < length bytes → IsWordByte (slice_index bytes n) → ⊥) → (n < length bytes → (slice_index bytes n ≡ single_quote → ⊥) × (slice_index bytes n ≡ double_quote → ⊥)) → (kind : Kind) (past : ℕ) → IsLiteralKind kind → Spells bytes from past kind → ⊥
 no_prefixed bytes from n some each ends none kind past is s = elim (spelled_literal bytes from past kind is s) [
   | inl c ↦ no_literal _ _ bytes from n past char_form some each ends (λ l. (none l).0) c.literal

@@ -28,6 +28,7 @@ sort_by first second last =
     else if is_digit first || ((first == 46) && is_digit second) then 4
     else 5
 
+-- the sort of a kind
 abbrev sort_of : Kind → ℕ
 sort_of Word = 3
 sort_of (Key number) = 3
@@ -38,18 +39,23 @@ sort_of (Mark number) = 5
 sort_of Line = 0
 sort_of Pragma = 0
 
+-- a name has its sort
 name_sort : (first second last : ℕ) → IsLetter first → IsWordByte last → sort_by first second last ≡ 3
 name_sort first second last f l = grind (arith, nat_tests)
 
+-- so has a number
 number_sort : (first second last : ℕ) → IsDigit first ⊎ ((first ≡ full_stop) × IsDigit second) → (last ≡ single_quote → ⊥) → (last ≡ double_quote → ⊥) → sort_by first second last ≡ 4
 number_sort first second last f a b = grind (arith, nat_tests)
 
+-- and a character constant
 char_sort : (first second last : ℕ) → (first ≡ single_quote) ⊎ IsLetter first → last ≡ single_quote → sort_by first second last ≡ 1
 char_sort first second last f l = grind (arith, nat_tests)
 
+-- and a string literal
 text_sort : (first second last : ℕ) → (first ≡ double_quote) ⊎ IsLetter first → last ≡ double_quote → sort_by first second last ≡ 2
 text_sort first second last f l = grind (arith, nat_tests)
 
+-- and a mark
 mark_sort : (first second last : ℕ) → IsFirst first → (IsDigit second → ⊥) → (last ≡ single_quote → ⊥) → (last ≡ double_quote → ⊥) → sort_by first second last ≡ 5
 mark_sort first second last f s a b =
     let letter = f.no_letter in
@@ -57,6 +63,7 @@ mark_sort first second last f s a b =
     let sign = f.no_sign in
     grind (arith, nat_tests)
 
+-- and a line with `#`
 line_sort : (first second last : ℕ) → first ≡ number_sign → sort_by first second last ≡ 0
 line_sort first second last f = grind (arith, nat_tests)
 
