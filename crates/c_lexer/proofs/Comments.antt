@@ -1,20 +1,15 @@
 -- What is passed over between tokens: blanks and comments.
-use Rattle.std.proofs.Common.{◌≡◌, ℕ, ◌+◌, ◌<◌, ◌≤◌, ◌⊎◌, Bool, true, not, ◌==◌, List, Option, Some, None, MatchOption, length, slice_index, slice_range, refl, sym, ◌∙◌, arith, inl, inr}
-use Rattle.std.specs.List.{list_all}
-use Rattle.std.proofs.lemmas.Bool.Decides.{nat_tests}
-use Rattle.std.proofs.lemmas.Bool.{cases_order, cases_eq}
-use Rattle.c_lexer.specs.Bytes.{IsBlank, slash, asterisk, single_quote, double_quote}
+use Rattle.std.proofs.Common.{◌≡◌, ℕ, ◌+◌, ◌<◌, ◌≤◌, ◌⊎◌, List, Option, Some, None, MatchOption, length, slice_index, sym, ◌∙◌, arith, inl, inr}
+use Rattle.std.proofs.lemmas.Bool.{cases_order}
+use Rattle.c_lexer.specs.Bytes.{IsBlank, slash, asterisk}
 use Rattle.c_lexer.specs.Comments.{IsPair, BeginsComment, IsBlockComment, IsLineComment}
 use Rattle.c_lexer.specs.Passing.{IsPassed}
-use Rattle.c_lexer.specs.Keywords.{keywords}
-use Rattle.c_lexer.specs.Literals.{IsLiteral, char_prefixes, text_prefixes}
 use Rattle.c_lexer.specs.Spelling.{Spells}
 use Rattle.c_lexer.specs.Reading.{BeginsNoToken}
 use Rattle.c_lexer.specs.declared.token.Kind.{Kind}
 use Rattle.c_lexer.specs.declared.token.Kind.TheVariants.{Word, Key, Number, Char, Text, Mark, Line, Pragma}
 use Rattle.c_lexer.proofs.Lines.{inside, one_end}
-use Rattle.c_lexer.proofs.Parts.{part_first}
-use Rattle.c_lexer.proofs.Tables.{row_passes}
+use Rattle.c_lexer.proofs.Firsts.{first_of_kind}
 
 -- ---- Where they stand
 
@@ -86,28 +81,6 @@ block_passed bytes from (Some to) opens block = inr (inl block)
 
 -- ---- No token
 
--- whether the text does not begin with `/`
-abbrev is_other : List ℕ → Bool
-is_other text = not (slice_index text 0 == slash)
-
--- a text that passes the test does not
-no_slash : (text : List ℕ) → is_other text ≡ true → slice_index text 0 ≡ slash → ⊥
-no_slash text h e = grind (arith, nat_tests)
-
--- each keyword passes it
-keywords_other : list_all (λ row. is_other row.0) keywords ≡ true
-unfolding keywords
-keywords_other = refl
-
--- the first byte of a literal is a quote, or the first of a prefix
-literal_no_slash : (prefixes : List (List ℕ)) → list_all is_other prefixes ≡ true → (quote : ℕ) → (quote ≡ slash → ⊥) → (bytes : List ℕ) (from to : ℕ) → IsLiteral prefixes quote bytes from to → slice_index bytes from ≡ slash → ⊥
-literal_no_slash prefixes other quote odd bytes from to literal e = elim (cases_eq from literal.opening) [
-  | inl here ↦ odd (sym literal.quoted.opens ∙ rw here at e)
-  | inr before ↦
-      let some : from < literal.opening = omega (arith, literal.forward) in
-      no_slash (slice_range bytes from literal.opening) (row_passes is_other prefixes other _ literal.prefix) (rw (part_first bytes from literal.opening some) e)
-]
-
 -- no token begins with a `/` where a comment begins
 pub comment_no_token : (bytes : List ℕ) (at : ℕ) → BeginsComment bytes at → BeginsNoToken bytes at
 comment_no_token bytes at comment kind to a b s = go kind s
@@ -116,11 +89,11 @@ comment_no_token bytes at comment kind to a b s = go kind s
     first = elim comment [ inl p ↦ p.first_is | inr p ↦ p.first_is ]
 
     go : (kind : Kind) → Spells bytes at to kind → ⊥
-    go Word s = let l = s.name.first in let e = rw (part_first bytes at to a) at l in grind (arith, first)
-    go (Key k) s = no_slash (slice_range bytes at to) (row_passes (λ row. is_other row.0) keywords keywords_other _ s) (rw (part_first bytes at to a) first)
-    go Number s = let n = s.begins in grind (arith, first)
-    go Char s = literal_no_slash char_prefixes refl single_quote (λ e. omega arith) bytes at to s.literal first
-    go Text s = literal_no_slash text_prefixes refl double_quote (λ e. omega arith) bytes at to s first
+    go Word s = let f = first_of_kind bytes at to Word a b s in grind (arith, first)
+    go (Key k) s = let f = first_of_kind bytes at to (Key k) a b s in grind (arith, first)
+    go Number s = let f = first_of_kind bytes at to Number a b s in grind (arith, first)
+    go Char s = let f = first_of_kind bytes at to Char a b s in grind (arith, first)
+    go Text s = let f = first_of_kind bytes at to Text a b s in grind (arith, first)
     go (Mark k) s = s.no_comment comment
-    go Line s = let e = s.2.sign in omega (arith, first)
-    go Pragma s = let e = s.sign in omega (arith, first)
+    go Line s = let f = first_of_kind bytes at to Line a b s in grind (arith, first)
+    go Pragma s = let f = first_of_kind bytes at to Pragma a b s in grind (arith, first)

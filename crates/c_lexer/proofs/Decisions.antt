@@ -100,8 +100,8 @@ some_or_not P decide n bound =
 -- ---- Words
 
 -- a list of words has a text or not
-pub word_or_not : (words : List (List ℕ)) (text : List ℕ) → Decided (Contains words text)
-word_or_not words text =
+pub contains_or_not : (words : List (List ℕ)) (text : List ℕ) → Decided (Contains words text)
+contains_or_not words text =
     decided_by _ (Contains words text) (λ h. (h.0, h.1.0, h.1.1)) (λ c. (c.0, (c.1, c.2)))
     (some_or_not (λ k. (k < length words) × (get_or words k text ≡ text))
     (λ k. both_or_not _ _ (less_or_not k (length words)) (λ l. same_or_not (get_or words k text) text))

@@ -1,12 +1,12 @@
 -- Whether a line marker or a pragma stands between two places.
-use Rattle.std.proofs.Common.{◌≡◌, ℕ, suc, zero, ◌+◌, ◌-◌, ◌<◌, ◌≤◌, List, Option, Some, None, codes, length, slice_index, slice_range, refl, arith, inl, inr}
+use Rattle.std.proofs.Common.{◌≡◌, ℕ, suc, zero, ◌+◌, ◌-◌, ◌<◌, ◌≤◌, ◌⊎◌, List, Option, Some, None, codes, length, slice_index, slice_range, refl, arith, inl, inr}
 use Rattle.std.proofs.lemmas.Bool.{cases_eq}
 use Rattle.c_lexer.specs.Bytes.{double_quote, number_sign, IsDigit}
 use Rattle.c_lexer.specs.Lines.{AreLineBlanks, OnOneLine, BeginsLine, EndsLine}
 use Rattle.c_lexer.specs.Literals.{IsQuoted}
 use Rattle.c_lexer.specs.Directives.{IsGap, IsLineNumber, IsFileName, IsFilePart, AreFlags, none, flag, IsMarkerOf, IsLineMarker, IsPragma, digits_value, max_line}
 use Rattle.c_lexer.proofs.ClassTests.{digit_or_not}
-use Rattle.c_lexer.proofs.Decisions.{Decided, decided_by, both_or_not, most_or_not, less_or_not, same_or_not, each_or_not, some_or_not}
+use Rattle.c_lexer.proofs.Decisions.{Decided, decided_by, both_or_not, either_or_not, most_or_not, less_or_not, same_or_not, each_or_not, some_or_not}
 use Rattle.c_lexer.proofs.Lines.{inside}
 use Rattle.c_lexer.proofs.LineTests.{blanks_or_not, one_line_or_not, ends_line_or_not, begins_line_or_not}
 use Rattle.c_lexer.proofs.LiteralTests.{quoted_or_not}
@@ -62,21 +62,16 @@ file_name_or_not bytes from (suc closing) =
 abbrev HasFilePart : List ℕ → ℕ → ℕ → Type 0
 HasFilePart bytes from to = (file : Option (List ℕ)) × IsFilePart bytes from to file
 
--- where neither nothing nor a name stands, no part does
-no_file_part : (bytes : List ℕ) (from to : ℕ) → (from ≡ to → ⊥) → ((name : List ℕ) × IsFileName bytes from to name → ⊥) → (file : Option (List ℕ)) → IsFilePart bytes from to file → ⊥
-no_file_part bytes from to some no_name None part = some part
-no_file_part bytes from to some no_name (Some name) part = no_name (name, part)
+-- such a part is nothing or a name
+part_of : (bytes : List ℕ) (from to : ℕ) → HasFilePart bytes from to → (from ≡ to) ⊎ ((name : List ℕ) × IsFileName bytes from to name)
+part_of bytes from to (None, part) = inl part
+part_of bytes from to (Some name, part) = inr (name, part)
 
--- such a part or none
+-- it stands there or not
 file_part_or_not : (bytes : List ℕ) (from to : ℕ) → Decided (HasFilePart bytes from to)
 file_part_or_not bytes from to =
-    elim (cases_eq from to) [
-      | inl e ↦ inl (None, e)
-      | inr some ↦ elim (file_name_or_not bytes from to) [
-        | inl found ↦ inl (Some found.0, found.1)
-        | inr no_name ↦ inr (λ f. no_file_part bytes from to some no_name f.0 f.1)
-      ]
-    ]
+    decided_by _ (HasFilePart bytes from to) (λ p. elim p [ inl e ↦ (None, e) | inr name ↦ (Some name.0, name.1) ]) (part_of bytes from to)
+    (either_or_not _ _ (cases_eq from to) (file_name_or_not bytes from to))
 
 -- it ends within the text
 file_within : (bytes : List ℕ) (from to : ℕ) → from ≤ length bytes → (file : Option (List ℕ)) → IsFilePart bytes from to file → to ≤ length bytes
@@ -94,34 +89,31 @@ abbrev HasFlag : List ℕ → ℕ → ℕ → Type 0
 HasFlag bytes from to =
     (digit : ℕ) × (IsGap bytes from digit × ((49 ≤ slice_index bytes digit) × ((slice_index bytes digit ≤ 52) × AreFlags bytes (digit + 1) to)))
 
--- where neither nothing nor a flag stands, no flags do
-no_flags : (bytes : List ℕ) (from to : ℕ) → (from ≡ to → ⊥) → (HasFlag bytes from to → ⊥) → AreFlags bytes from to → ⊥
-no_flags bytes from to some no_flag none = some refl
-no_flags bytes from to some no_flag (flag {digit = digit} gap low high rest) = no_flag (digit, (gap, (low, (high, rest))))
+-- nothing makes flags, and so does a flag with the rest
+of_form : (bytes : List ℕ) (from to : ℕ) → (from ≡ to) ⊎ HasFlag bytes from to → AreFlags bytes from to
+of_form bytes from to (inl e) = rw e none
+of_form bytes from to (inr f) = flag f.1.0 f.1.1.0 f.1.1.1.0 f.1.1.1.1
+
+-- and flags are one of the two
+form_of : (bytes : List ℕ) (from to : ℕ) → AreFlags bytes from to → (from ≡ to) ⊎ HasFlag bytes from to
+form_of bytes from to none = inl refl
+form_of bytes from to (flag {digit = digit} gap low high rest) = inr (digit, (gap, (low, (high, rest))))
 
 -- flags stand between the places, of which the first is at most n before the end of the text, or not
 flags_or_not : (bytes : List ℕ) (n from to : ℕ) → length bytes ≤ from + n → Decided (AreFlags bytes from to)
 flags_or_not bytes zero from to l =
-    elim (cases_eq from to) [
-      | inl e ↦ inl (rw e none)
-      | inr some ↦ inr (no_flags bytes from to some (λ f. let w = gap_within bytes from f.0 f.1.0 in omega arith))
-    ]
+    decided_by (from ≡ to) (AreFlags bytes from to) (λ e. rw e none)
+    (λ f. elim (form_of bytes from to f) [ inl e ↦ e | inr some ↦ absurd (let w = gap_within bytes from some.0 some.1.0 in omega arith) ])
+    (cases_eq from to)
 flags_or_not bytes (suc n) from to l =
-    elim (cases_eq from to) [
-      | inl e ↦ inl (rw e none)
-      | inr some ↦
-          let first : Decided (HasFlag bytes from to) =
-          some_or_not (λ digit. IsGap bytes from digit × ((49 ≤ slice_index bytes digit) × ((slice_index bytes digit ≤ 52) × AreFlags bytes (digit + 1) to)))
-          (λ digit. both_or_not _ _ (gap_or_not bytes from digit) (λ gap.
-          both_or_not _ _ (most_or_not 49 (slice_index bytes digit)) (λ low.
-          both_or_not _ _ (most_or_not (slice_index bytes digit) 52) (λ high.
-          flags_or_not bytes n (digit + 1) to (let behind = gap.some in omega arith)))))
-          (length bytes) (λ digit f. let low = f.1.0 in inside bytes digit (omega arith)) in
-          elim first [
-            | inl f ↦ inl (flag f.1.0 f.1.1.0 f.1.1.1.0 f.1.1.1.1)
-            | inr no_flag ↦ inr (no_flags bytes from to some no_flag)
-          ]
-    ]
+    decided_by ((from ≡ to) ⊎ HasFlag bytes from to) (AreFlags bytes from to) (of_form bytes from to) (form_of bytes from to)
+    (either_or_not _ _ (cases_eq from to)
+    (some_or_not (λ digit. IsGap bytes from digit × ((49 ≤ slice_index bytes digit) × ((slice_index bytes digit ≤ 52) × AreFlags bytes (digit + 1) to)))
+    (λ digit. both_or_not _ _ (gap_or_not bytes from digit) (λ gap.
+    both_or_not _ _ (most_or_not 49 (slice_index bytes digit)) (λ low.
+    both_or_not _ _ (most_or_not (slice_index bytes digit) 52) (λ high.
+    flags_or_not bytes n (digit + 1) to (let behind = gap.some in omega arith)))))
+    (length bytes) (λ digit f. let low = f.1.0 in inside bytes digit (omega arith))))
 
 -- ---- Line markers
 
@@ -205,8 +197,8 @@ record HasWord (bytes : List ℕ) (from to word : ℕ) : Type 0 where
   one_line : OnOneLine bytes (word + 6) to
 
 -- such a word or none
-word_or_not : (bytes : List ℕ) (from to word : ℕ) → Decided (HasWord bytes from to word)
-word_or_not bytes from to word =
+pragma_word_or_not : (bytes : List ℕ) (from to word : ℕ) → Decided (HasWord bytes from to word)
+pragma_word_or_not bytes from to word =
     decided_by ((from + 1 ≤ word) × ((word + 6 ≤ to) × (AreLineBlanks bytes (from + 1) word × ((slice_range bytes word (word + 6) ≡ codes "pragma") × OnOneLine bytes (word + 6) to)))) (HasWord bytes from to word)
     (λ w. record { behind = w.0; past = w.1.0; blanks = w.1.1.0; pragma = w.1.1.1.0; one_line = w.1.1.1.1 })
     (λ w. (w.behind, (w.past, (w.blanks, (w.pragma, w.one_line)))))
@@ -237,4 +229,4 @@ pragma_or_not bytes from to =
     (both_or_not _ _ (begins_line_or_not bytes from) (λ begins.
     both_or_not _ _ (cases_eq (slice_index bytes from) number_sign) (λ sign.
     both_or_not _ _ (ends_line_or_not bytes to) (λ ends.
-    some_or_not (HasWord bytes from to) (word_or_not bytes from to) to (λ word w. let past = w.past in omega arith)))))
+    some_or_not (HasWord bytes from to) (pragma_word_or_not bytes from to) to (λ word w. let past = w.past in omega arith)))))

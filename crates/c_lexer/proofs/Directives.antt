@@ -9,9 +9,9 @@ use Rattle.c_lexer.specs.Scanning.{BeginsFlag, EndsGap, IsMarkerRest, IsOnlyFile
 use Rattle.c_lexer.specs.Spelling.{Spells}
 use Rattle.c_lexer.specs.declared.token.Kind.{Kind}
 use Rattle.c_lexer.specs.declared.token.Kind.TheVariants.{Line, Pragma}
-use Rattle.c_lexer.proofs.Parts.{part_at, part_first, run_once}
-use Rattle.c_lexer.proofs.Literals.{quoted_once, characters_forward, characters_on_one_line}
-use Rattle.c_lexer.proofs.Lines.{inside, line_end, one_end, one_line_joined, no_blank_past, blanks_once, blanks_on_one_line}
+use Rattle.c_lexer.proofs.Parts.{part_place, part_first, run_once}
+use Rattle.c_lexer.proofs.Literals.{quoted_once, quoted_on_one_line, characters_forward}
+use Rattle.c_lexer.proofs.Lines.{inside, line_end, one_end, one_line_joined, byte_on_one_line, no_blank_past, blanks_once, blanks_on_one_line}
 
 -- gaps from one place, each before a byte that is no blank, end at one place
 gap_once : (bytes : List ℕ) (from p q : ℕ) → IsGap bytes from p → IsGap bytes from q → (IsLineBlank (slice_index bytes p) → ⊥) → (IsLineBlank (slice_index bytes q) → ⊥) → p ≡ q
@@ -136,10 +136,6 @@ marker_no_pragma bytes from p q line file a b =
     let same : slice_index bytes a.number ≡ 112 = rw word y in
     omega arith
 
--- one byte that is no line feed stands on one line
-byte_on_one_line : (bytes : List ℕ) (at : ℕ) → (slice_index bytes at ≡ line_feed → ⊥) → OnOneLine bytes at (at + 1)
-byte_on_one_line bytes at n i l h = let same : i ≡ at = omega arith in rw same n
-
 -- digits hold no line feed
 digits_on_one_line : (bytes : List ℕ) (from to line : ℕ) → IsLineNumber bytes from to line → OnOneLine bytes from to
 digits_on_one_line bytes from to line n i l h e = let d = n.digits i l h in omega arith
@@ -169,14 +165,8 @@ file_forward bytes from to (Some name) a =
 file_on_one_line : (bytes : List ℕ) (from to : ℕ) (file : Option (List ℕ)) → IsFilePart bytes from to file → OnOneLine bytes from to
 file_on_one_line bytes from to None a = λ i l h e. omega arith
 file_on_one_line bytes from to (Some name) a =
-    let x = a.quoted.opens in
-    let y = a.quoted.closes in
-    let inner = one_line_joined bytes (a.opening + 1) a.closing (a.closing + 1)
-    (characters_on_one_line bytes double_quote (a.opening + 1) a.closing a.quoted.characters)
-    (byte_on_one_line bytes a.closing (λ e. omega arith)) in
-    let all = one_line_joined bytes from a.opening (a.closing + 1) (blanks_on_one_line bytes from a.opening a.gap.blanks)
-    (one_line_joined bytes a.opening (a.opening + 1) (a.closing + 1) (byte_on_one_line bytes a.opening (λ e. omega arith)) inner) in
-    rw a.end all
+    let quoted = quoted_on_one_line bytes double_quote a.opening a.closing (λ e. omega arith) a.quoted in
+    one_line_joined bytes from a.opening to (blanks_on_one_line bytes from a.opening a.gap.blanks) (rw a.end quoted)
 
 -- a line marker has a byte
 pub marker_forward : (bytes : List ℕ) (from to line : ℕ) (file : Option (List ℕ)) → IsMarkerOf bytes from to line file → from < to
@@ -200,18 +190,11 @@ marker_on_one_line bytes from to line file a =
 no_feed_in_word : (i : ℕ) → i < 6 → slice_index (codes "pragma") i ≡ line_feed → ⊥
 no_feed_in_word i l e = let passed = AllPass-from_list_all (λ byte. not (byte == line_feed)) (codes "pragma") refl i 0 l in let feed = rw e at passed in cc
 
--- a byte of the word of a pragma, by its place in the text
-byte_of_word : (bytes : List ℕ) (word i : ℕ) → slice_range bytes word (word + 6) ≡ codes "pragma" → word ≤ i → i < word + 6 → slice_index (codes "pragma") (i - word) ≡ slice_index bytes i
-byte_of_word bytes word i h l m =
-    let same : word + (i - word) ≡ i = omega arith in
-    let part = part_at bytes word (word + 6) (i - word) (omega arith) in
-    rw (h, same) at part
-
 -- the word of a pragma stands on one line
 word_on_one_line : (bytes : List ℕ) (word : ℕ) → slice_range bytes word (word + 6) ≡ codes "pragma" → OnOneLine bytes word (word + 6)
 word_on_one_line bytes word h i l m e =
-    let b = byte_of_word bytes word i h l m in
-    no_feed_in_word (i - word) (omega arith) (b ∙ e)
+    let byte = rw h at (part_place bytes word (word + 6) i l m) in
+    no_feed_in_word (i - word) (omega arith) (byte ∙ e)
 
 -- a pragma has a byte
 pub pragma_forward : (bytes : List ℕ) (from to : ℕ) → IsPragma bytes from to → from < to

@@ -7,11 +7,11 @@ pub mod Lines
 pub mod Places
 pub mod Numbers
 pub mod Literals
-pub mod Comments
 pub mod Marks
 pub mod LineNumbers
 pub mod Directives
 pub mod Firsts
+pub mod Comments
 pub mod Longest
 pub mod Steps
 pub mod OneKind

@@ -1,5 +1,5 @@
 -- Where lines begin and end.
-use Rattle.std.proofs.Common.{◌≡◌, ℕ, ◌⊎◌, ◌<◌, ◌≤◌, List, length, slice_index, arith, inl, inr}
+use Rattle.std.proofs.Common.{◌≡◌, ℕ, ◌⊎◌, ◌+◌, ◌<◌, ◌≤◌, List, length, slice_index, arith, inl, inr}
 use Rattle.std.proofs.lemmas.Bool.{cases_lt, cases_order}
 use Rattle.std.proofs.lemmas.List.{get_or_past}
 use Rattle.c_lexer.specs.Bytes.{line_feed, IsLineBlank}
@@ -39,6 +39,10 @@ one_end bytes from p q a e b f l m = elim (cases_order p q) [
 -- two parts without a line feed that follow each other have none together
 pub one_line_joined : (bytes : List ℕ) (from at to : ℕ) → OnOneLine bytes from at → OnOneLine bytes at to → OnOneLine bytes from to
 one_line_joined bytes from at to a b i l h = elim (cases_lt i at) [ inl m ↦ a i l m | inr m ↦ b i m h ]
+
+-- one byte that is no line feed stands on one line
+pub byte_on_one_line : (bytes : List ℕ) (at : ℕ) → (slice_index bytes at ≡ line_feed → ⊥) → OnOneLine bytes at (at + 1)
+byte_on_one_line bytes at n i l h = let same : i ≡ at = omega arith in rw same n
 
 -- blanks hold no line feed
 pub blanks_on_one_line : (bytes : List ℕ) (from to : ℕ) → AreLineBlanks bytes from to → OnOneLine bytes from to

@@ -3,7 +3,7 @@ use Rattle.std.proofs.Common.{◌≡◌, ℕ, suc, zero, ◌+◌, ◌<◌, ◌�
 use Rattle.std.proofs.lemmas.Bool.{cases_eq}
 use Rattle.c_lexer.specs.Bytes.{line_feed, backslash, single_quote, double_quote}
 use Rattle.c_lexer.specs.Literals.{IsPlain, AreCharacters, none, plain, escaped, IsQuoted, char_prefixes, text_prefixes, IsLiteral, IsChar, IsText}
-use Rattle.c_lexer.proofs.Decisions.{Decided, decided_by, both_or_not, either_or_not, no_or_not, most_or_not, less_or_not, some_or_not, word_or_not}
+use Rattle.c_lexer.proofs.Decisions.{Decided, decided_by, both_or_not, either_or_not, no_or_not, most_or_not, less_or_not, some_or_not, contains_or_not}
 use Rattle.c_lexer.proofs.Literals.{characters_forward, IsOpenedAt, literal_opened}
 
 -- ---- Characters
@@ -66,7 +66,7 @@ opened_or_not prefixes quote bytes from opening (suc closing) =
     decided_by _ (IsOpenedAt prefixes quote bytes from opening (suc closing))
     (λ o. record { prefix = o.0; closing = closing; quoted = o.1; end = omega arith })
     (λ o. let end = o.end in let same : o.closing ≡ closing = omega arith in (o.prefix, rw same at o.quoted))
-    (both_or_not _ _ (word_or_not prefixes (slice_range bytes from opening)) (λ prefix. quoted_or_not bytes quote opening closing))
+    (both_or_not _ _ (contains_or_not prefixes (slice_range bytes from opening)) (λ prefix. quoted_or_not bytes quote opening closing))
 
 -- the place where the quotes of a literal open, with more than so many bytes from there on
 abbrev HasOpening : List (List ℕ) → ℕ → List ℕ → ℕ → ℕ → ℕ → Type 0

@@ -1,5 +1,5 @@
 -- Literals: where their quotes open, and where they are closed.
-use Rattle.std.proofs.Common.{◌≡◌, ℕ, ◌+◌, ◌-◌, ◌<◌, ◌≤◌, ◌⊎◌, ◌&&◌, ◌||◌, Bool, true, false, List, [], ◌∷◌, length, nat_le, slice_range, slice_index, refl, sym, ap, subst, arith, inl, inr}
+use Rattle.std.proofs.Common.{◌≡◌, ℕ, ◌+◌, ◌-◌, ◌<◌, ◌≤◌, ◌⊎◌, ◌&&◌, ◌||◌, Bool, true, false, List, [], ◌∷◌, length, nat_le, slice_range, slice_index, refl, sym, ap, subst, ◌∙◌, arith, inl, inr}
 use Rattle.std.specs.List.{Contains}
 use Rattle.std.proofs.lemmas.Bool.{and_parts, cases_lt, leb-true}
 use Rattle.std.proofs.lemmas.Bool.Decides.{nat_tests}
@@ -11,8 +11,8 @@ use Rattle.c_lexer.specs.Spelling.{Spells, IsName}
 use Rattle.c_lexer.specs.declared.token.Kind.{Kind}
 use Rattle.c_lexer.specs.declared.token.Kind.TheVariants.{Char, Text}
 use Rattle.c_lexer.proofs.Classes.{is_name, name_is}
-use Rattle.c_lexer.proofs.Lines.{inside}
-use Rattle.c_lexer.proofs.Parts.{part_length, part_at, part_first}
+use Rattle.c_lexer.proofs.Lines.{inside, one_line_joined, byte_on_one_line}
+use Rattle.c_lexer.proofs.Parts.{part_length, part_place, part_first}
 use Rattle.c_lexer.proofs.Tables.{row_passes}
 
 -- ---- Characters
@@ -24,7 +24,7 @@ characters_forward bytes quote from to (plain p h) = let r = characters_forward 
 characters_forward bytes quote from to (escaped b f h) = let r = characters_forward bytes quote (from + 2) to h in omega arith
 
 -- characters have no line feed
-pub characters_on_one_line : (bytes : List ℕ) (quote from to : ℕ) → AreCharacters bytes quote from to → OnOneLine bytes from to
+characters_on_one_line : (bytes : List ℕ) (quote from to : ℕ) → AreCharacters bytes quote from to → OnOneLine bytes from to
 characters_on_one_line bytes quote from to none i a b e = omega arith
 characters_on_one_line bytes quote from to (plain p h) i a b e =
     elim (cases_lt from i) [
@@ -102,6 +102,13 @@ characters_once bytes quote from p q odd h k s t =
 pub quoted_once : (bytes : List ℕ) (quote opening p q : ℕ) → (quote ≡ backslash → ⊥) → IsQuoted bytes quote opening p → IsQuoted bytes quote opening q → p ≡ q
 quoted_once bytes quote opening p q odd h k =
     characters_once bytes quote (opening + 1) p q odd h.characters k.characters h.closes k.closes
+
+-- quotes with characters between them stand on one line
+pub quoted_on_one_line : (bytes : List ℕ) (quote opening closing : ℕ) → (quote ≡ line_feed → ⊥) → IsQuoted bytes quote opening closing → OnOneLine bytes opening (closing + 1)
+quoted_on_one_line bytes quote opening closing no_feed q =
+    one_line_joined bytes opening (opening + 1) (closing + 1) (byte_on_one_line bytes opening (λ e. no_feed (sym q.opens ∙ e)))
+    (one_line_joined bytes (opening + 1) closing (closing + 1)
+    (characters_on_one_line bytes quote (opening + 1) closing q.characters) (byte_on_one_line bytes closing (λ e. no_feed (sym q.closes ∙ e))))
 
 -- the closing quote stands behind all characters after the opening one
 pub closing_behind : (bytes : List ℕ) (quote opening closing at : ℕ) → (quote ≡ backslash → ⊥) → IsQuoted bytes quote opening closing → AreCharacters bytes quote (opening + 1) at → at ≤ closing
@@ -200,10 +207,7 @@ prefixed bytes from opening h l p =
       forward = h;
       short = omega (arith, p.short);
       first = λ a. rw (part_first bytes from opening a) at (p.first (omega arith));
-      each = λ i a b.
-          let there : from + (i - from) < opening = omega arith in
-          let same : from + (i - from) ≡ i = omega arith in
-          rw (part_at bytes from opening (i - from) there, same) at (p.each (i - from) (omega arith));
+      each = λ i a b. rw (part_place bytes from opening i a b) at (p.each (i - from) (omega arith));
     }
 
 -- the quote that opens a literal is the quote
@@ -231,19 +235,10 @@ literal_last prefixes quote bytes from to l =
 
 -- a literal has no line feed
 pub literal_on_one_line : (prefixes : List (List ℕ)) (quote : ℕ) (bytes : List ℕ) (from to : ℕ) → IsForm prefixes quote → IsLiteral prefixes quote bytes from to → OnOneLine bytes from to
-literal_on_one_line prefixes quote bytes from to f l i a b e =
-    let no_feed = quote_no_feed quote f.quote_is in
-    let end = l.end in
-    elim (cases_lt i l.opening) [
-      | inl before ↦ word_byte_no_feed _ ((literal_before prefixes quote bytes from to f l).each i a before) e
-      | inr h ↦ elim (cases_lt l.opening i) [
-        | inr k ↦ let here : i ≡ l.opening = omega arith in let opens = l.quoted.opens in no_feed (cc)
-        | inl k ↦ elim (cases_lt i l.closing) [
-          | inl m ↦ characters_on_one_line bytes quote (l.opening + 1) l.closing l.quoted.characters i (omega arith) m e
-          | inr m ↦ let here : i ≡ l.closing = omega arith in let closes = l.quoted.closes in no_feed (cc)
-        ]
-      ]
-    ]
+literal_on_one_line prefixes quote bytes from to f l =
+    let before = literal_before prefixes quote bytes from to f l in
+    let quoted = quoted_on_one_line bytes quote l.opening l.closing (quote_no_feed quote f.quote_is) l.quoted in
+    one_line_joined bytes from l.opening to (λ i a b. word_byte_no_feed _ (before.each i a b)) (rw l.end quoted)
 
 -- the quotes of a literal open behind its word bytes
 literal_opening_once : (prefixes : List (List ℕ)) (quote : ℕ) (bytes : List ℕ) (from to n : ℕ) → from ≤ n → ((i : ℕ) → from ≤ i → i < n → IsWordByte (slice_index bytes i)) → (slice_index bytes n ≡ single_quote) ⊎ (slice_index bytes n ≡ double_quote) → IsForm prefixes quote → (l : IsLiteral prefixes quote bytes from to) → l.opening ≡ n

@@ -10,7 +10,7 @@ use Rattle.c_lexer.specs.Reading.{IsLongest, BeginsNoToken}
 use Rattle.c_lexer.specs.Scanning.{IsLiteralKind, IsOnlyLiteral, IsDirectiveKind, IsOnlyDirective}
 use Rattle.c_lexer.specs.declared.token.Kind.{Kind}
 use Rattle.c_lexer.specs.declared.token.Kind.TheVariants.{Word, Key, Number, Char, Text, Mark, Line, Pragma}
-use Rattle.c_lexer.proofs.Parts.{part_length, part_at, part_first}
+use Rattle.c_lexer.proofs.Parts.{part_length, part_at, part_place, part_first}
 use Rattle.c_lexer.proofs.Tables.{keyword_name}
 use Rattle.c_lexer.proofs.Marks.{mark_reach, mark_on_one_line}
 use Rattle.c_lexer.proofs.Numbers.{number_on_one_line}
@@ -25,9 +25,7 @@ use Rattle.c_lexer.proofs.Firsts.{first_of_kind}
 name_on_one_line : (bytes : List ℕ) (from to : ℕ) → to ≤ length bytes → IsName (slice_range bytes from to) → OnOneLine bytes from to
 name_on_one_line bytes from to w n i a b e =
     let l = part_length bytes from to w in
-    let f : from + (i - from) < to = omega arith in
-    let same : from + (i - from) ≡ i = omega arith in
-    let here = rw (part_at bytes from to (i - from) f, same, e) at (n.each (i - from) (omega (arith, l))) in
+    let here = rw (part_place bytes from to i a b, e) at (n.each (i - from) (omega (arith, l))) in
     grind arith
 
 -- a token stays on its line
@@ -51,9 +49,7 @@ longest_on_one_line bytes from to kind h = kind_on_one_line bytes from to kind h
 name_ends : (bytes : List ℕ) (from n past : ℕ) → from ≤ n → n < past → past ≤ length bytes → (IsWordByte (slice_index bytes n) → ⊥) → IsName (slice_range bytes from past) → ⊥
 name_ends bytes from n past a b w none s =
     let l = part_length bytes from past w in
-    let f : from + (n - from) < past = omega arith in
-    let same : from + (n - from) ≡ n = omega arith in
-    none (rw (part_at bytes from past (n - from) f, same) at (s.each (n - from) (omega (arith, l))))
+    none (rw (part_place bytes from past n a b) at (s.each (n - from) (omega (arith, l))))
 
 -- a letter begins no number, no mark and no line with `#`
 module _ (bytes : List ℕ) (from to n : ℕ) (letter : IsLetter (slice_index bytes from)) (forward : from ≤ n) (behind : n ≤ to)

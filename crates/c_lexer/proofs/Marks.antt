@@ -8,7 +8,7 @@ use Rattle.c_lexer.specs.Bytes.{line_feed, double_quote, number_sign, single_quo
 use Rattle.c_lexer.specs.Lines.{OnOneLine}
 use Rattle.c_lexer.specs.Marks.{marks, IsMark, IsMarkAt}
 use Rattle.c_lexer.specs.Scanning.{IsSecond}
-use Rattle.c_lexer.proofs.Parts.{part_length, part_at}
+use Rattle.c_lexer.proofs.Parts.{part_length, part_at, part_place}
 use Rattle.c_lexer.proofs.Tables.{agree, one_number, row_passes}
 
 -- the rows of marks of one spelling have one number
@@ -117,10 +117,8 @@ mark_text text number h = mark_text_is text (row_passes (λ row. is_mark_text ro
 pub mark_on_one_line : (bytes : List ℕ) (from to number : ℕ) → IsMarkAt bytes from to number → to ≤ length bytes → OnOneLine bytes from to
 mark_on_one_line bytes from to number h within i low high =
     let size = part_length bytes from to within in
-    let place : from + (i - from) < to = omega arith in
-    let same : from + (i - from) ≡ i = omega arith in
     let text = mark_text (slice_range bytes from to) number h.mark in
-    rw (part_at bytes from to (i - from) place, same) at (text.each (i - from) (omega (arith, size))).no_feed
+    rw (part_place bytes from to i low high) at (text.each (i - from) (omega (arith, size))).no_feed
 
 -- no mark of the list stands between the places
 abbrev pub NoMark : List ℕ → ℕ → ℕ → Type 0

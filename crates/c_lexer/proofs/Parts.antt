@@ -12,6 +12,13 @@ part_length bytes from to h = simp (length-take, length-drop) (omega arith)
 pub part_at : (bytes : List ℕ) (from to i : ℕ) → from + i < to → slice_index (slice_range bytes from to) i ≡ slice_index bytes (from + i)
 part_at bytes from to i h = let k : i < to - from = omega arith in rw (get_or-take, get_or-drop) refl
 
+-- the same, by its place in the text
+pub part_place : (bytes : List ℕ) (from to i : ℕ) → from ≤ i → i < to → slice_index (slice_range bytes from to) (i - from) ≡ slice_index bytes i
+part_place bytes from to i low high =
+    let inside : from + (i - from) < to = omega arith in
+    let same : from + (i - from) ≡ i = omega arith in
+    rw same at (part_at bytes from to (i - from) inside)
+
 -- the first byte of a part
 pub part_first : (bytes : List ℕ) (from to : ℕ) → from < to → slice_index (slice_range bytes from to) 0 ≡ slice_index bytes from
 part_first bytes from to h = let k : from + 0 < to = omega arith in rw (part_at bytes from to 0 k, add-zero) refl
