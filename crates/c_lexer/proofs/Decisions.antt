@@ -1,11 +1,15 @@
 -- Facts that hold or don't.
-use Rattle.std.proofs.Common.{◌≡◌, bytes_eq, ℕ, suc, zero, ◌<◌, ◌≤◌, ◌⊎◌, List, arith, inl, inr}
+use Rattle.std.proofs.Common.{◌≡◌, bytes_eq, ℕ, suc, zero, ◌<◌, ◌≤◌, ◌⊎◌, ◌∙◌, List, [], length, get_or, ap, arith, inl, inr}
+use Rattle.std.specs.List.{Contains}
 use Rattle.std.proofs.lemmas.Bool.{cases_Bool, cases_lt}
+use Rattle.std.proofs.lemmas.List.{get_or_default}
 use Rattle.std.proofs.lemmas.Slice.Eq.{bytes_eq-Decides}
 
 -- it is known whether the fact holds
 abbrev pub Decided : Type 0 → Type 0
 Decided P = P ⊎ (P → ⊥)
+
+-- ---- Facts made of others
 
 -- what means the same is known too
 pub decided_by : (P Q : Type 0) → (P → Q) → (Q → P) → Decided P → Decided Q
@@ -23,10 +27,17 @@ either_or_not P Q (inl p) b = inl (inl p)
 either_or_not P Q (inr no_p) (inl q) = inl (inr q)
 either_or_not P Q (inr no_p) (inr no_q) = inr (λ h. elim h [ inl p ↦ no_p p | inr q ↦ no_q q ])
 
+-- the second follows from the first or not
+pub implied_or_not : (P Q : Type 0) → Decided P → Decided Q → Decided (P → Q)
+implied_or_not P Q p (inl q) = inl (λ _. q)
+implied_or_not P Q (inl p) (inr no_q) = inr (λ h. no_q (h p))
+implied_or_not P Q (inr no_p) (inr no_q) = inl (λ p. absurd (no_p p))
+
 -- it holds that a fact does not, or not
 pub no_or_not : (P : Type 0) → Decided P → Decided (P → ⊥)
-no_or_not P (inl p) = inr (λ none. none p)
-no_or_not P (inr no_p) = inl no_p
+no_or_not P p = implied_or_not P ⊥ p (inr (λ h. h))
+
+-- ---- Numbers and texts
 
 -- a number is at most another or not
 pub most_or_not : (m n : ℕ) → Decided (m ≤ n)
@@ -45,42 +56,68 @@ same_or_not first second =
       | inr other ↦ inr (λ e. let same = decides.1 e in cc)
     ]
 
--- what is known of each place holds of all between two places or not
-pub each_or_not : (P : ℕ → Type 0) → ((i : ℕ) → Decided (P i)) → (from to : ℕ) → Decided ((i : ℕ) → from ≤ i → i < to → P i)
-each_or_not P decide from zero = inl (λ i low high. absurd (omega arith))
-each_or_not P decide from (suc to) =
-    elim (cases_lt to from) [
-      | inl behind ↦ inl (λ i low high. absurd (omega arith))
-      | inr ahead ↦ elim (each_or_not P decide from to) [
-        | inr none ↦ inr (λ each. none (λ i low high. each i low (omega arith)))
-        | inl each ↦ elim (decide to) [
-          | inr none ↦ inr (λ all. none (all to ahead (omega arith)))
-          | inl last ↦ inl (λ i low high. elim (cases_lt i to) [
-            | inl before ↦ each i low before
-            | inr past ↦ let here : i ≡ to = omega arith in rw here last
-          ])
-        ]
-      ]
-    ]
+-- ---- Places
 
--- it holds of one of the first places or of none
-some_below : (P : ℕ → Type 0) → ((i : ℕ) → Decided (P i)) → (n : ℕ) → ((i : ℕ) × P i) ⊎ ((i : ℕ) → i < n → P i → ⊥)
-some_below P decide zero = inr (λ i l p. omega arith)
-some_below P decide (suc n) =
-    elim (decide n) [
-      | inl here ↦ inl (n, here)
-      | inr not_here ↦ elim (some_below P decide n) [
-        | inl found ↦ inl found
-        | inr none ↦ inr (λ i l p. elim (cases_lt i n) [
-          | inl before ↦ none i before p
-          | inr past ↦ let here : i ≡ n = omega arith in not_here (rw here at p)
+-- the first place between two at which the fact holds
+pub record HasFirst (P : ℕ → Type 0) (from to : ℕ) : Type 0 where
+  pub at : ℕ
+  pub low : from ≤ at
+  pub high : at < to
+  pub holds : P at
+  pub none : (i : ℕ) → from ≤ i → i < at → P i → ⊥
+
+-- such a place or none
+pub first_or_none : (P : ℕ → Type 0) → ((i : ℕ) → Decided (P i)) → (from to : ℕ) → HasFirst P from to ⊎ ((i : ℕ) → from ≤ i → i < to → P i → ⊥)
+first_or_none P decide from zero = inr (λ i low high p. omega arith)
+first_or_none P decide from (suc to) =
+    elim (first_or_none P decide from to) [
+      | inl first ↦ let high = first.high in inl (record { at = first.at; low = first.low; high = omega arith; holds = first.holds; none = first.none })
+      | inr none ↦ elim (both_or_not (from ≤ to) (P to) (most_or_not from to) (λ low. decide to)) [
+        | inl last ↦ inl (record { at = to; low = last.0; high = omega arith; holds = last.1; none = none })
+        | inr not_last ↦ inr (λ i low high p. elim (cases_lt i to) [
+          | inl before ↦ none i low before p
+          | inr past ↦ let here : i ≡ to = omega arith in not_last (rw here at low, rw here at p)
         ])
       ]
     ]
 
+-- what is known of each place holds of all between two or not
+pub each_or_not : (P : ℕ → Type 0) → ((i : ℕ) → Decided (P i)) → (from to : ℕ) → Decided ((i : ℕ) → from ≤ i → i < to → P i)
+each_or_not P decide from to =
+    elim (first_or_none (λ i. P i → ⊥) (λ i. no_or_not (P i) (decide i)) from to) [
+      | inl first ↦ inr (λ each. first.holds (each first.at first.low first.high))
+      | inr none ↦ inl (λ i low high. elim (decide i) [ inl p ↦ p | inr no_p ↦ absurd (none i low high no_p) ])
+    ]
+
 -- it holds of some place or of none, where it holds of none past a bound
 pub some_or_not : (P : ℕ → Type 0) → ((i : ℕ) → Decided (P i)) → (n : ℕ) → ((i : ℕ) → P i → i < n) → Decided ((i : ℕ) × P i)
-some_or_not P decide n bound = elim (some_below P decide n) [
-  | inl found ↦ inl found
-  | inr none ↦ inr (λ h. none h.0 (bound h.0 h.1) h.1)
-]
+some_or_not P decide n bound =
+    elim (first_or_none P decide 0 n) [
+      | inl first ↦ inl (first.at, first.holds)
+      | inr none ↦ inr (λ h. none h.0 (omega arith) (bound h.0 h.1) h.1)
+    ]
+
+-- ---- Words
+
+-- a list of words has a text or not
+pub contains_or_not : (words : List (List ℕ)) (text : List ℕ) → Decided (Contains words text)
+contains_or_not words text =
+    decided_by _ (Contains words text) (λ h. (h.0, h.1.0, h.1.1)) (λ c. (c.0, (c.1, c.2)))
+    (some_or_not (λ k. (k < length words) × (get_or words k text ≡ text))
+    (λ k. both_or_not _ _ (less_or_not k (length words)) (λ l. same_or_not (get_or words k text) text))
+    (length words) (λ k h. h.0))
+
+-- a table of words has a row of a text or not
+pub row_or_not : (rows : List (List ℕ × ℕ)) (text : List ℕ) → Decided ((number : ℕ) × Contains rows (text, number))
+row_or_not rows text =
+    let none : List ℕ × ℕ = ([], 0) in
+    decided_by _ ((number : ℕ) × Contains rows (text, number))
+    (λ h.
+    let number = (get_or rows h.0 none).1 in
+    (number, (h.0, h.1.0, get_or_default rows h.0 (text, number) none h.1.0 ∙ ap (λ (word : List ℕ). (word, number)) h.1.1)))
+    (λ r.
+    let c = r.1 in
+    (c.0, (c.1, ap (λ (row : List ℕ × ℕ). row.0) (get_or_default rows c.0 none (text, r.0) c.1 ∙ c.2))))
+    (some_or_not (λ k. (k < length rows) × ((get_or rows k none).0 ≡ text))
+    (λ k. both_or_not _ _ (less_or_not k (length rows)) (λ l. same_or_not (get_or rows k none).0 text))
+    (length rows) (λ k h. h.0))

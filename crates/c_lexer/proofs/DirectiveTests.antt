@@ -1,64 +1,15 @@
 -- Whether a line marker or a pragma stands between two places.
-use Rattle.std.proofs.Common.{◌≡◌, ℕ, suc, zero, ◌+◌, ◌-◌, ◌<◌, ◌≤◌, ◌⊎◌, List, [], Option, Some, None, codes, length, slice_index, slice_range, refl, sym, arith, inl, inr}
+use Rattle.std.proofs.Common.{◌≡◌, ℕ, suc, zero, ◌+◌, ◌-◌, ◌<◌, ◌≤◌, ◌⊎◌, List, Option, Some, None, codes, length, slice_index, slice_range, refl, arith, inl, inr}
 use Rattle.std.proofs.lemmas.Bool.{cases_eq}
-use Rattle.c_lexer.specs.Bytes.{line_feed, double_quote, number_sign, IsLineBlank, IsDigit}
+use Rattle.c_lexer.specs.Bytes.{double_quote, number_sign, IsDigit}
 use Rattle.c_lexer.specs.Lines.{AreLineBlanks, OnOneLine, BeginsLine, EndsLine}
-use Rattle.c_lexer.specs.Literals.{IsQuoted, IsText, text_prefixes}
+use Rattle.c_lexer.specs.Literals.{IsQuoted}
 use Rattle.c_lexer.specs.Directives.{IsGap, IsLineNumber, IsFileName, IsFilePart, AreFlags, none, flag, IsMarkerOf, IsLineMarker, IsPragma, digits_value, max_line}
-use Rattle.c_lexer.proofs.Decisions.{Decided, decided_by, both_or_not, either_or_not, no_or_not, most_or_not, less_or_not, same_or_not, each_or_not, some_or_not}
+use Rattle.c_lexer.proofs.ClassTests.{digit_or_not}
+use Rattle.c_lexer.proofs.Decisions.{Decided, decided_by, both_or_not, either_or_not, most_or_not, less_or_not, same_or_not, each_or_not, some_or_not}
 use Rattle.c_lexer.proofs.Lines.{inside}
-use Rattle.c_lexer.proofs.Literals.{text_form, literal_opening_once}
-use Rattle.c_lexer.proofs.LiteralTests.{text_or_not}
-
--- ---- Lines
-
--- a byte is a blank of a line or not
-line_blank_or_not : (byte : ℕ) → Decided (IsLineBlank byte)
-line_blank_or_not byte = grind arith
-
--- a byte is a digit or not
-digit_or_not : (byte : ℕ) → Decided (IsDigit byte)
-digit_or_not byte = grind arith
-
--- only blanks of one line stand between the places or not
-blanks_or_not : (bytes : List ℕ) (from to : ℕ) → Decided (AreLineBlanks bytes from to)
-blanks_or_not bytes = each_or_not (λ i. IsLineBlank (slice_index bytes i)) (λ i. line_blank_or_not (slice_index bytes i))
-
--- no line feed stands between the places or one does
-one_line_or_not : (bytes : List ℕ) (from to : ℕ) → Decided (OnOneLine bytes from to)
-one_line_or_not bytes = each_or_not (λ i. slice_index bytes i ≡ line_feed → ⊥) (λ i. no_or_not (slice_index bytes i ≡ line_feed) (cases_eq (slice_index bytes i) line_feed))
-
--- the line ends at the place or not
-ends_line_or_not : (bytes : List ℕ) (at : ℕ) → Decided (EndsLine bytes at)
-ends_line_or_not bytes at = either_or_not (at ≡ length bytes) (slice_index bytes at ≡ line_feed) (cases_eq at (length bytes)) (cases_eq (slice_index bytes at) line_feed)
-
--- the text or a line of it begins at the place
-abbrev IsStart : List ℕ → ℕ → Type 0
-IsStart bytes start = (start ≡ 0) ⊎ ((feed : ℕ) × (start ≡ feed + 1) × (slice_index bytes feed ≡ line_feed))
-
--- such a place or not
-start_or_not : (bytes : List ℕ) (start : ℕ) → Decided (IsStart bytes start)
-start_or_not bytes zero = inl (inl refl)
-start_or_not bytes (suc feed) =
-    elim (cases_eq (slice_index bytes feed) line_feed) [
-      | inl e ↦ inl (inr (feed, omega arith, e))
-      | inr other ↦ inr (λ s. elim s [
-        | inl e ↦ omega arith
-        | inr behind ↦ let next = behind.1 in let same : behind.0 ≡ feed = omega arith in other (rw same at behind.2)
-      ])
-    ]
-
--- only blanks stand before the place on its line or not
-begins_line_or_not : (bytes : List ℕ) (at : ℕ) → Decided (BeginsLine bytes at)
-begins_line_or_not bytes at =
-    decided_by _ (BeginsLine bytes at)
-    (λ s. record { start = s.0; before = s.1.0; is_start = s.1.1.0; blanks = s.1.1.1 })
-    (λ b. (b.start, (b.before, (b.is_start, b.blanks))))
-    (some_or_not (λ start. (start ≤ at) × (IsStart bytes start × AreLineBlanks bytes start at))
-    (λ start. both_or_not _ _ (most_or_not start at) (λ before.
-    both_or_not _ _ (start_or_not bytes start) (λ is_start.
-    blanks_or_not bytes start at)))
-    (at + 1) (λ start s. let before = s.0 in omega arith))
+use Rattle.c_lexer.proofs.LineTests.{blanks_or_not, one_line_or_not, ends_line_or_not, begins_line_or_not}
+use Rattle.c_lexer.proofs.LiteralTests.{quoted_or_not}
 
 -- ---- Parts of a line marker
 
@@ -78,8 +29,8 @@ abbrev HasNumber : List ℕ → ℕ → ℕ → Type 0
 HasNumber bytes from to = (line : ℕ) × IsLineNumber bytes from to line
 
 -- such a number or none
-number_or_not : (bytes : List ℕ) (from to : ℕ) → Decided (HasNumber bytes from to)
-number_or_not bytes from to =
+line_number_or_not : (bytes : List ℕ) (from to : ℕ) → Decided (HasNumber bytes from to)
+line_number_or_not bytes from to =
     decided_by ((from < to) × (((i : ℕ) → from ≤ i → i < to → IsDigit (slice_index bytes i)) × (digits_value 0 (slice_range bytes from to) ≤ max_line))) (HasNumber bytes from to)
     (λ n. (digits_value 0 (slice_range bytes from to), record { some = n.0; digits = n.1.0; value = refl; small = n.1.1 }))
     (λ n. let line = n.1 in (line.some, (line.digits, rw line.value line.small)))
@@ -96,64 +47,31 @@ number_within bytes from to n =
     let end = inside bytes (to - 1) (omega arith) in
     (inside bytes from (omega arith), omega arith)
 
--- quotes without a prefix are a string literal
-text_of_quotes : (bytes : List ℕ) (opening closing : ℕ) → IsQuoted bytes double_quote opening closing → IsText bytes opening (closing + 1)
-text_of_quotes bytes opening closing q =
-    let nothing : slice_range bytes opening opening ≡ [] = (let n : opening - opening ≡ 0 = omega arith in rw n refl) in
-    record {
-      opening = opening;
-      closing = closing;
-      forward = omega arith;
-      prefix = (0, omega arith, sym nothing);
-      quoted = q;
-      end = refl;
-    }
-
--- and a string literal that begins with a quote has no prefix
-quotes_of_text : (bytes : List ℕ) (opening closing : ℕ) → slice_index bytes opening ≡ double_quote → IsText bytes opening (closing + 1) → IsQuoted bytes double_quote opening closing
-quotes_of_text bytes opening closing quote t =
-    let first = literal_opening_once text_prefixes double_quote bytes opening (closing + 1) opening (omega arith) (λ i low high. absurd (omega arith)) (inr quote) text_form t in
-    let end = t.end in
-    let last : t.closing ≡ closing = omega arith in
-    rw (first, last) at t.quoted
-
--- quotes without a prefix stand at the places or not
-quotes_or_not : (bytes : List ℕ) (opening closing : ℕ) → Decided (IsQuoted bytes double_quote opening closing)
-quotes_or_not bytes opening closing =
-    decided_by ((slice_index bytes opening ≡ double_quote) × IsText bytes opening (closing + 1)) (IsQuoted bytes double_quote opening closing)
-    (λ t. quotes_of_text bytes opening closing t.0 t.1) (λ q. (q.opens, text_of_quotes bytes opening closing q))
-    (both_or_not _ _ (cases_eq (slice_index bytes opening) double_quote) (λ quote. text_or_not bytes opening (closing + 1)))
-
 -- the name of a file stands between the places or not
-name_or_not : (bytes : List ℕ) (from to : ℕ) → Decided ((name : List ℕ) × IsFileName bytes from to name)
-name_or_not bytes from zero = inr (λ n. let end = n.1.end in omega arith)
-name_or_not bytes from (suc closing) =
+file_name_or_not : (bytes : List ℕ) (from to : ℕ) → Decided ((name : List ℕ) × IsFileName bytes from to name)
+file_name_or_not bytes from zero = inr (λ n. let end = n.1.end in omega arith)
+file_name_or_not bytes from (suc closing) =
     decided_by _ ((name : List ℕ) × IsFileName bytes from (suc closing) name)
     (λ s. (slice_range bytes (s.0 + 1) closing, record { opening = s.0; closing = closing; gap = s.1.0; quoted = s.1.1; end = omega arith; name_is = refl }))
     (λ n. let file = n.1 in let end = file.end in let last : file.closing ≡ closing = omega arith in (file.opening, (file.gap, rw last at file.quoted)))
     (some_or_not (λ opening. IsGap bytes from opening × IsQuoted bytes double_quote opening closing)
-    (λ opening. both_or_not _ _ (gap_or_not bytes from opening) (λ gap. quotes_or_not bytes opening closing))
+    (λ opening. both_or_not _ _ (gap_or_not bytes from opening) (λ gap. quoted_or_not bytes double_quote opening closing))
     (length bytes) (λ opening s. let quote = s.1.opens in inside bytes opening (omega arith)))
 
 -- nothing or the name of a file stands between the places
 abbrev HasFilePart : List ℕ → ℕ → ℕ → Type 0
 HasFilePart bytes from to = (file : Option (List ℕ)) × IsFilePart bytes from to file
 
--- where neither nothing nor a name stands, no part does
-no_file_part : (bytes : List ℕ) (from to : ℕ) → (from ≡ to → ⊥) → ((name : List ℕ) × IsFileName bytes from to name → ⊥) → (file : Option (List ℕ)) → IsFilePart bytes from to file → ⊥
-no_file_part bytes from to some no_name None part = some part
-no_file_part bytes from to some no_name (Some name) part = no_name (name, part)
+-- such a part is nothing or a name
+part_of : (bytes : List ℕ) (from to : ℕ) → HasFilePart bytes from to → (from ≡ to) ⊎ ((name : List ℕ) × IsFileName bytes from to name)
+part_of bytes from to (None, part) = inl part
+part_of bytes from to (Some name, part) = inr (name, part)
 
--- such a part or none
+-- it stands there or not
 file_part_or_not : (bytes : List ℕ) (from to : ℕ) → Decided (HasFilePart bytes from to)
 file_part_or_not bytes from to =
-    elim (cases_eq from to) [
-      | inl e ↦ inl (None, e)
-      | inr some ↦ elim (name_or_not bytes from to) [
-        | inl found ↦ inl (Some found.0, found.1)
-        | inr no_name ↦ inr (λ f. no_file_part bytes from to some no_name f.0 f.1)
-      ]
-    ]
+    decided_by _ (HasFilePart bytes from to) (λ p. elim p [ inl e ↦ (None, e) | inr name ↦ (Some name.0, name.1) ]) (part_of bytes from to)
+    (either_or_not _ _ (cases_eq from to) (file_name_or_not bytes from to))
 
 -- it ends within the text
 file_within : (bytes : List ℕ) (from to : ℕ) → from ≤ length bytes → (file : Option (List ℕ)) → IsFilePart bytes from to file → to ≤ length bytes
@@ -171,34 +89,31 @@ abbrev HasFlag : List ℕ → ℕ → ℕ → Type 0
 HasFlag bytes from to =
     (digit : ℕ) × (IsGap bytes from digit × ((49 ≤ slice_index bytes digit) × ((slice_index bytes digit ≤ 52) × AreFlags bytes (digit + 1) to)))
 
--- where neither nothing nor a flag stands, no flags do
-no_flags : (bytes : List ℕ) (from to : ℕ) → (from ≡ to → ⊥) → (HasFlag bytes from to → ⊥) → AreFlags bytes from to → ⊥
-no_flags bytes from to some no_flag none = some refl
-no_flags bytes from to some no_flag (flag {digit = digit} gap low high rest) = no_flag (digit, (gap, (low, (high, rest))))
+-- nothing makes flags, and so does a flag with the rest
+of_form : (bytes : List ℕ) (from to : ℕ) → (from ≡ to) ⊎ HasFlag bytes from to → AreFlags bytes from to
+of_form bytes from to (inl e) = rw e none
+of_form bytes from to (inr f) = flag f.1.0 f.1.1.0 f.1.1.1.0 f.1.1.1.1
+
+-- and flags are one of the two
+form_of : (bytes : List ℕ) (from to : ℕ) → AreFlags bytes from to → (from ≡ to) ⊎ HasFlag bytes from to
+form_of bytes from to none = inl refl
+form_of bytes from to (flag {digit = digit} gap low high rest) = inr (digit, (gap, (low, (high, rest))))
 
 -- flags stand between the places, of which the first is at most n before the end of the text, or not
 flags_or_not : (bytes : List ℕ) (n from to : ℕ) → length bytes ≤ from + n → Decided (AreFlags bytes from to)
 flags_or_not bytes zero from to l =
-    elim (cases_eq from to) [
-      | inl e ↦ inl (rw e none)
-      | inr some ↦ inr (no_flags bytes from to some (λ f. let w = gap_within bytes from f.0 f.1.0 in omega arith))
-    ]
+    decided_by (from ≡ to) (AreFlags bytes from to) (λ e. rw e none)
+    (λ f. elim (form_of bytes from to f) [ inl e ↦ e | inr some ↦ absurd (let w = gap_within bytes from some.0 some.1.0 in omega arith) ])
+    (cases_eq from to)
 flags_or_not bytes (suc n) from to l =
-    elim (cases_eq from to) [
-      | inl e ↦ inl (rw e none)
-      | inr some ↦
-          let first : Decided (HasFlag bytes from to) =
-          some_or_not (λ digit. IsGap bytes from digit × ((49 ≤ slice_index bytes digit) × ((slice_index bytes digit ≤ 52) × AreFlags bytes (digit + 1) to)))
-          (λ digit. both_or_not _ _ (gap_or_not bytes from digit) (λ gap.
-          both_or_not _ _ (most_or_not 49 (slice_index bytes digit)) (λ low.
-          both_or_not _ _ (most_or_not (slice_index bytes digit) 52) (λ high.
-          flags_or_not bytes n (digit + 1) to (let behind = gap.some in omega arith)))))
-          (length bytes) (λ digit f. let low = f.1.0 in inside bytes digit (omega arith)) in
-          elim first [
-            | inl f ↦ inl (flag f.1.0 f.1.1.0 f.1.1.1.0 f.1.1.1.1)
-            | inr no_flag ↦ inr (no_flags bytes from to some no_flag)
-          ]
-    ]
+    decided_by ((from ≡ to) ⊎ HasFlag bytes from to) (AreFlags bytes from to) (of_form bytes from to) (form_of bytes from to)
+    (either_or_not _ _ (cases_eq from to)
+    (some_or_not (λ digit. IsGap bytes from digit × ((49 ≤ slice_index bytes digit) × ((slice_index bytes digit ≤ 52) × AreFlags bytes (digit + 1) to)))
+    (λ digit. both_or_not _ _ (gap_or_not bytes from digit) (λ gap.
+    both_or_not _ _ (most_or_not 49 (slice_index bytes digit)) (λ low.
+    both_or_not _ _ (most_or_not (slice_index bytes digit) 52) (λ high.
+    flags_or_not bytes n (digit + 1) to (let behind = gap.some in omega arith)))))
+    (length bytes) (λ digit f. let low = f.1.0 in inside bytes digit (omega arith))))
 
 -- ---- Line markers
 
@@ -221,7 +136,7 @@ HasTail bytes number to = (past : ℕ) × (HasNumber bytes number past × HasRes
 tail_or_not : (bytes : List ℕ) (number to : ℕ) → Decided (HasTail bytes number to)
 tail_or_not bytes number to =
     some_or_not (λ past. HasNumber bytes number past × HasRest bytes past to)
-    (λ past. both_or_not _ _ (number_or_not bytes number past) (λ n. rest_or_not bytes past to (number_within bytes number past n).1))
+    (λ past. both_or_not _ _ (line_number_or_not bytes number past) (λ n. rest_or_not bytes past to (number_within bytes number past n).1))
     (length bytes + 1) (λ past t. let w = number_within bytes number past t.0 in omega arith)
 
 -- what stands behind the sign of a line marker
@@ -282,8 +197,8 @@ record HasWord (bytes : List ℕ) (from to word : ℕ) : Type 0 where
   one_line : OnOneLine bytes (word + 6) to
 
 -- such a word or none
-word_or_not : (bytes : List ℕ) (from to word : ℕ) → Decided (HasWord bytes from to word)
-word_or_not bytes from to word =
+pragma_word_or_not : (bytes : List ℕ) (from to word : ℕ) → Decided (HasWord bytes from to word)
+pragma_word_or_not bytes from to word =
     decided_by ((from + 1 ≤ word) × ((word + 6 ≤ to) × (AreLineBlanks bytes (from + 1) word × ((slice_range bytes word (word + 6) ≡ codes "pragma") × OnOneLine bytes (word + 6) to)))) (HasWord bytes from to word)
     (λ w. record { behind = w.0; past = w.1.0; blanks = w.1.1.0; pragma = w.1.1.1.0; one_line = w.1.1.1.1 })
     (λ w. (w.behind, (w.past, (w.blanks, (w.pragma, w.one_line)))))
@@ -314,4 +229,4 @@ pragma_or_not bytes from to =
     (both_or_not _ _ (begins_line_or_not bytes from) (λ begins.
     both_or_not _ _ (cases_eq (slice_index bytes from) number_sign) (λ sign.
     both_or_not _ _ (ends_line_or_not bytes to) (λ ends.
-    some_or_not (HasWord bytes from to) (word_or_not bytes from to) to (λ word w. let past = w.past in omega arith)))))
+    some_or_not (HasWord bytes from to) (pragma_word_or_not bytes from to) to (λ word w. let past = w.past in omega arith)))))

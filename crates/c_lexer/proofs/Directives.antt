@@ -1,6 +1,5 @@
 -- Line markers and pragmas.
 use Rattle.std.proofs.Common.{◌≡◌, ℕ, ◌+◌, ◌-◌, ◌<◌, ◌≤◌, List, Option, Some, None, codes, length, slice_index, slice_range, refl, ap, sym, ◌∙◌, arith, inl, inr, subst, ◌==◌, not}
-use Rattle.std.proofs.lemmas.Bool.{cases_lt, cases_order}
 use Rattle.std.proofs.lemmas.List.Sums.{AllPass-from_list_all}
 use Rattle.c_lexer.specs.Bytes.{line_feed, double_quote, IsDigit, IsLineBlank}
 use Rattle.c_lexer.specs.Lines.{AreLineBlanks, EndsLine, OnOneLine}
@@ -10,12 +9,12 @@ use Rattle.c_lexer.specs.Scanning.{BeginsFlag, EndsGap, IsMarkerRest, IsOnlyFile
 use Rattle.c_lexer.specs.Spelling.{Spells}
 use Rattle.c_lexer.specs.declared.token.Kind.{Kind}
 use Rattle.c_lexer.specs.declared.token.Kind.TheVariants.{Line, Pragma}
-use Rattle.c_lexer.proofs.Parts.{part_at, part_first}
-use Rattle.c_lexer.proofs.Literals.{quoted_once, characters_forward, characters_on_one_line}
-use Rattle.c_lexer.proofs.Lines.{inside, line_end, one_end, no_blank_past, blanks_once, blanks_on_one_line}
+use Rattle.c_lexer.proofs.Parts.{part_place, part_first, run_once}
+use Rattle.c_lexer.proofs.Literals.{quoted_once, quoted_on_one_line, characters_forward}
+use Rattle.c_lexer.proofs.Lines.{inside, line_end, one_end, one_line_joined, byte_on_one_line, no_blank_past, blanks_once, blanks_on_one_line}
 
 -- gaps from one place, each before a byte that is no blank, end at one place
-pub gap_once : (bytes : List ℕ) (from p q : ℕ) → IsGap bytes from p → IsGap bytes from q → (IsLineBlank (slice_index bytes p) → ⊥) → (IsLineBlank (slice_index bytes q) → ⊥) → p ≡ q
+gap_once : (bytes : List ℕ) (from p q : ℕ) → IsGap bytes from p → IsGap bytes from q → (IsLineBlank (slice_index bytes p) → ⊥) → (IsLineBlank (slice_index bytes q) → ⊥) → p ≡ q
 gap_once bytes from p q a b f g = let l = a.some in let m = b.some in blanks_once bytes from p q (omega arith) (omega arith) a.blanks b.blanks f g
 
 -- at the end of a line stands no blank, and so no gap begins
@@ -30,14 +29,18 @@ no_digit_at_gap bytes from to g d = let b = g.blanks from (omega arith) g.some i
 no_digit_at_end : (bytes : List ℕ) (from : ℕ) → EndsLine bytes from → IsDigit (slice_index bytes from) → ⊥
 no_digit_at_end bytes from e d = let l = (line_end bytes from e).byte in grind arith
 
--- flags from one place to the end of the line end at one place
-pub flags_once : (bytes : List ℕ) {from p q : ℕ} → AreFlags bytes from p → AreFlags bytes from q → EndsLine bytes p → EndsLine bytes q → p ≡ q
-flags_once bytes none none e f = refl
-flags_once bytes none (flag g l h r) e f = absurd (no_gap_at_end bytes _ _ e g)
-flags_once bytes (flag g l h r) none e f = absurd (no_gap_at_end bytes _ _ f g)
-flags_once bytes {p = p} {q = q} (flag {from = from} {digit = d} g l h r) (flag {digit = c} i m k s) e f =
+-- the flags of a marker end where no flag begins
+flags_stop : (bytes : List ℕ) {from p q : ℕ} → AreFlags bytes from p → AreFlags bytes from q → (BeginsFlag bytes p → ⊥) → EndsLine bytes q → q ≡ p
+flags_stop bytes none none e f = refl
+flags_stop bytes none (flag {digit = digit} g l h r) e f = absurd (e (record { digit = digit; inside = inside bytes digit (omega arith); gap = g; low = l; high = h }))
+flags_stop bytes (flag g l h r) none e f = absurd (no_gap_at_end bytes _ _ f g)
+flags_stop bytes {p = p} {q = q} (flag {from = from} {digit = d} g l h r) (flag {digit = c} i m k s) e f =
     let same : d ≡ c = gap_once bytes from d c g i (λ b. grind arith) (λ b. grind arith) in
-    flags_once bytes r (subst (λ digit. AreFlags bytes (digit + 1) q) (sym same) s) e f
+    flags_stop bytes r (subst (λ digit. AreFlags bytes (digit + 1) q) (sym same) s) e f
+
+-- flags from one place to the end of the line end at one place
+flags_once : (bytes : List ℕ) {from p q : ℕ} → AreFlags bytes from p → AreFlags bytes from q → EndsLine bytes p → EndsLine bytes q → p ≡ q
+flags_once bytes a b e f = sym (flags_stop bytes a b (λ flag. no_gap_at_end bytes _ _ e flag.gap) f)
 
 -- before flags to the end of the line stands no digit
 no_digit_at_flags : (bytes : List ℕ) {from to : ℕ} → AreFlags bytes from to → EndsLine bytes to → IsDigit (slice_index bytes from) → ⊥
@@ -54,11 +57,7 @@ number_once : (bytes : List ℕ) (from p q l m : ℕ) → IsLineNumber bytes fro
 number_once bytes from p q l m a b f g =
     let some = a.some in
     let other = b.some in
-    let same : p ≡ q = elim (cases_order p q) [
-      | inl e ↦ e
-      | inr (inl h) ↦ absurd (f (b.digits p (omega arith) h))
-      | inr (inr h) ↦ absurd (g (a.digits q (omega arith) h))
-    ] in
+    let same = run_once IsDigit bytes from p q (omega arith) (omega arith) a.digits b.digits f g in
     (same, sym a.value ∙ (ap (λ past. digits_value 0 (slice_range bytes from past)) same ∙ b.value))
 
 -- where a quote stands behind a gap, no flag stands there and no end of a line
@@ -120,7 +119,7 @@ letter_at_word bytes word h =
     sym (part_first bytes word (word + 6) (omega arith)) ∙ ap (λ text. slice_index text 0) h
 
 -- one pragma stands at a place
-pub pragma_once : (bytes : List ℕ) (from p q : ℕ) → IsPragma bytes from p → IsPragma bytes from q → p ≡ q
+pragma_once : (bytes : List ℕ) (from p q : ℕ) → IsPragma bytes from p → IsPragma bytes from q → p ≡ q
 pragma_once bytes from p q a b =
     let x = letter_at_word bytes a.word a.pragma in
     let y = letter_at_word bytes b.word b.pragma in
@@ -137,14 +136,6 @@ marker_no_pragma bytes from p q line file a b =
     let same : slice_index bytes a.number ≡ 112 = rw word y in
     omega arith
 
--- two parts that follow each other stand on one line where each does
-pub join_one_line : (bytes : List ℕ) (from at to : ℕ) → OnOneLine bytes from at → OnOneLine bytes at to → OnOneLine bytes from to
-join_one_line bytes from at to a b i l h = elim (cases_lt i at) [ inl m ↦ a i l m | inr m ↦ b i m h ]
-
--- one byte that is no line feed stands on one line
-byte_on_one_line : (bytes : List ℕ) (at : ℕ) → (slice_index bytes at ≡ line_feed → ⊥) → OnOneLine bytes at (at + 1)
-byte_on_one_line bytes at n i l h = let same : i ≡ at = omega arith in rw same n
-
 -- digits hold no line feed
 digits_on_one_line : (bytes : List ℕ) (from to line : ℕ) → IsLineNumber bytes from to line → OnOneLine bytes from to
 digits_on_one_line bytes from to line n i l h e = let d = n.digits i l h in omega arith
@@ -158,8 +149,8 @@ flags_forward bytes (flag g l h r) = let f = flags_forward bytes r in let s = g.
 flags_on_one_line : (bytes : List ℕ) {from to : ℕ} → AreFlags bytes from to → OnOneLine bytes from to
 flags_on_one_line bytes none = λ i l h e. omega arith
 flags_on_one_line bytes {from = from} {to = to} (flag {digit = digit} g l h r) =
-    join_one_line bytes from digit to (blanks_on_one_line bytes from digit g.blanks)
-    (join_one_line bytes digit (digit + 1) to (byte_on_one_line bytes digit (λ e. omega arith)) (flags_on_one_line bytes r))
+    one_line_joined bytes from digit to (blanks_on_one_line bytes from digit g.blanks)
+    (one_line_joined bytes digit (digit + 1) to (byte_on_one_line bytes digit (λ e. omega arith)) (flags_on_one_line bytes r))
 
 -- a file's name, if there is one, goes forward
 file_forward : (bytes : List ℕ) (from to : ℕ) (file : Option (List ℕ)) → IsFilePart bytes from to file → from ≤ to
@@ -174,14 +165,8 @@ file_forward bytes from to (Some name) a =
 file_on_one_line : (bytes : List ℕ) (from to : ℕ) (file : Option (List ℕ)) → IsFilePart bytes from to file → OnOneLine bytes from to
 file_on_one_line bytes from to None a = λ i l h e. omega arith
 file_on_one_line bytes from to (Some name) a =
-    let x = a.quoted.opens in
-    let y = a.quoted.closes in
-    let inner = join_one_line bytes (a.opening + 1) a.closing (a.closing + 1)
-    (characters_on_one_line bytes double_quote (a.opening + 1) a.closing a.quoted.characters)
-    (byte_on_one_line bytes a.closing (λ e. omega arith)) in
-    let all = join_one_line bytes from a.opening (a.closing + 1) (blanks_on_one_line bytes from a.opening a.gap.blanks)
-    (join_one_line bytes a.opening (a.opening + 1) (a.closing + 1) (byte_on_one_line bytes a.opening (λ e. omega arith)) inner) in
-    rw a.end all
+    let quoted = quoted_on_one_line bytes double_quote a.opening a.closing (λ e. omega arith) a.quoted in
+    one_line_joined bytes from a.opening to (blanks_on_one_line bytes from a.opening a.gap.blanks) (rw a.end quoted)
 
 -- a line marker has a byte
 pub marker_forward : (bytes : List ℕ) (from to line : ℕ) (file : Option (List ℕ)) → IsMarkerOf bytes from to line file → from < to
@@ -196,27 +181,20 @@ marker_forward bytes from to line file a =
 pub marker_on_one_line : (bytes : List ℕ) (from to line : ℕ) (file : Option (List ℕ)) → IsMarkerOf bytes from to line file → OnOneLine bytes from to
 marker_on_one_line bytes from to line file a =
     let sign = a.sign in
-    let rest = join_one_line bytes a.past a.flags to (file_on_one_line bytes a.past a.flags file a.file_part) (flags_on_one_line bytes a.flagged) in
-    let number = join_one_line bytes a.number a.past to (digits_on_one_line bytes a.number a.past line a.line_number) rest in
-    join_one_line bytes from (from + 1) to (byte_on_one_line bytes from (λ e. omega arith))
-    (join_one_line bytes (from + 1) a.number to (blanks_on_one_line bytes (from + 1) a.number a.gap.blanks) number)
+    let rest = one_line_joined bytes a.past a.flags to (file_on_one_line bytes a.past a.flags file a.file_part) (flags_on_one_line bytes a.flagged) in
+    let number = one_line_joined bytes a.number a.past to (digits_on_one_line bytes a.number a.past line a.line_number) rest in
+    one_line_joined bytes from (from + 1) to (byte_on_one_line bytes from (λ e. omega arith))
+    (one_line_joined bytes (from + 1) a.number to (blanks_on_one_line bytes (from + 1) a.number a.gap.blanks) number)
 
 -- `pragma` holds no line feed
 no_feed_in_word : (i : ℕ) → i < 6 → slice_index (codes "pragma") i ≡ line_feed → ⊥
 no_feed_in_word i l e = let passed = AllPass-from_list_all (λ byte. not (byte == line_feed)) (codes "pragma") refl i 0 l in let feed = rw e at passed in cc
 
--- a byte of the word of a pragma, by its place in the text
-byte_of_word : (bytes : List ℕ) (word i : ℕ) → slice_range bytes word (word + 6) ≡ codes "pragma" → word ≤ i → i < word + 6 → slice_index (codes "pragma") (i - word) ≡ slice_index bytes i
-byte_of_word bytes word i h l m =
-    let same : word + (i - word) ≡ i = omega arith in
-    let part = part_at bytes word (word + 6) (i - word) (omega arith) in
-    rw (h, same) at part
-
 -- the word of a pragma stands on one line
 word_on_one_line : (bytes : List ℕ) (word : ℕ) → slice_range bytes word (word + 6) ≡ codes "pragma" → OnOneLine bytes word (word + 6)
 word_on_one_line bytes word h i l m e =
-    let b = byte_of_word bytes word i h l m in
-    no_feed_in_word (i - word) (omega arith) (b ∙ e)
+    let byte = rw h at (part_place bytes word (word + 6) i l m) in
+    no_feed_in_word (i - word) (omega arith) (byte ∙ e)
 
 -- a pragma has a byte
 pub pragma_forward : (bytes : List ℕ) (from to : ℕ) → IsPragma bytes from to → from < to
@@ -226,9 +204,9 @@ pragma_forward bytes from to a = let behind = a.behind in let past = a.past in o
 pub pragma_on_one_line : (bytes : List ℕ) (from to : ℕ) → IsPragma bytes from to → OnOneLine bytes from to
 pragma_on_one_line bytes from to a =
     let sign = a.sign in
-    join_one_line bytes from (from + 1) to (byte_on_one_line bytes from (λ e. omega arith))
-    (join_one_line bytes (from + 1) a.word to (blanks_on_one_line bytes (from + 1) a.word a.blanks)
-    (join_one_line bytes a.word (a.word + 6) to (word_on_one_line bytes a.word a.pragma) a.one_line))
+    one_line_joined bytes from (from + 1) to (byte_on_one_line bytes from (λ e. omega arith))
+    (one_line_joined bytes (from + 1) a.word to (blanks_on_one_line bytes (from + 1) a.word a.blanks)
+    (one_line_joined bytes a.word (a.word + 6) to (word_on_one_line bytes a.word a.pragma) a.one_line))
 
 -- the word of a pragma stands at `word`, before the end of the pragma
 pub record IsPragmaAt (bytes : List ℕ) (word to : ℕ) : Type 0 where
@@ -246,15 +224,6 @@ word_of_pragma bytes from to word p behind blanks ends =
 pub flags_more : (bytes : List ℕ) {from at digit : ℕ} → AreFlags bytes from at → IsGap bytes at digit → 49 ≤ slice_index bytes digit → slice_index bytes digit ≤ 52 → AreFlags bytes from (digit + 1)
 flags_more bytes none g l h = flag g l h none
 flags_more bytes (flag i m k r) g l h = flag i m k (flags_more bytes r g l h)
-
--- the flags of a marker end where no flag begins
-flags_stop : (bytes : List ℕ) {from p q : ℕ} → AreFlags bytes from p → AreFlags bytes from q → (BeginsFlag bytes p → ⊥) → EndsLine bytes q → q ≡ p
-flags_stop bytes none none e f = refl
-flags_stop bytes none (flag {digit = digit} g l h r) e f = absurd (e (record { digit = digit; inside = inside bytes digit (omega arith); gap = g; low = l; high = h }))
-flags_stop bytes (flag g l h r) none e f = absurd (no_gap_at_end bytes _ _ f g)
-flags_stop bytes {p = p} {q = q} (flag {from = from} {digit = d} g l h r) (flag {digit = c} i m k s) e f =
-    let same : d ≡ c = gap_once bytes from d c g i (λ b. grind arith) (λ b. grind arith) in
-    flags_stop bytes r (subst (λ digit. AreFlags bytes (digit + 1) q) (sym same) s) e f
 
 -- what stands of a marker behind the gap
 pub record IsMarkerTail (bytes : List ℕ) (number to line : ℕ) (file : Option (List ℕ)) : Type 0 where

@@ -23,6 +23,7 @@ First bytes from (Mark number) = IsFirst (slice_index bytes from)
 First bytes from Line = slice_index bytes from ≡ number_sign
 First bytes from Pragma = slice_index bytes from ≡ number_sign
 
+-- a name begins with a letter
 name_first : (bytes : List ℕ) (from to : ℕ) → from < to → IsName (slice_range bytes from to) → IsLetter (slice_index bytes from)
 name_first bytes from to h n = rw (part_first bytes from to h) at n.first
 

@@ -1,6 +1,6 @@
 -- The number that digits spell.
 use Rattle.std.proofs.Common.{◌≡◌, ℕ, suc, zero, add-zero, ◌+◌, ◌-◌, ◌*◌, ◌<◌, ◌≤◌, List, [], ◌∷◌, ◌++◌, length, take, drop, slice_index, slice_range, refl, ap, ◌∙◌, arith, inl, inr, length-drop, get_or-drop}
-use Rattle.std.proofs.lemmas.Bool.{cases_lt, cases_order}
+use Rattle.std.proofs.lemmas.Bool.{cases_order}
 use Rattle.std.proofs.lemmas.List.{take_more}
 use Rattle.c_lexer.specs.Bytes.{IsDigit}
 use Rattle.c_lexer.specs.Directives.{IsLineNumber, digits_value, max_line}
@@ -47,10 +47,3 @@ number_too_large bytes from past line to other inside low digits digit value lar
     let is = n.value in
     let small = n.small in
     omega arith
-
--- one more byte of a run
-pub run_more : (P : ℕ → Type 0) (bytes : List ℕ) (from to : ℕ) → ((i : ℕ) → from ≤ i → i < to → P (slice_index bytes i)) → P (slice_index bytes to) → (i : ℕ) → from ≤ i → i < to + 1 → P (slice_index bytes i)
-run_more P bytes from to each last i l h = elim (cases_lt i to) [
-  | inl m ↦ each i l m
-  | inr m ↦ let same : i ≡ to = omega arith in rw same last
-]

@@ -1,172 +1,120 @@
 -- Whether a literal stands between two places.
-use Rattle.std.proofs.Common.{◌≡◌, ℕ, suc, zero, ◌+◌, ◌<◌, ◌≤◌, ◌⊎◌, bytes_eq, List, [], ◌∷◌, length, slice_range, slice_index, get_or, refl, arith, inl, inr}
-use Rattle.std.specs.List.{Contains}
-use Rattle.std.proofs.lemmas.Bool.{cases_Bool, cases_eq, cases_lt}
-use Rattle.std.proofs.lemmas.Slice.Eq.{bytes_eq-Decides}
+use Rattle.std.proofs.Common.{◌≡◌, ℕ, suc, zero, ◌+◌, ◌<◌, ◌≤◌, ◌⊎◌, List, slice_range, slice_index, refl, arith, inl, inr}
+use Rattle.std.proofs.lemmas.Bool.{cases_eq}
 use Rattle.c_lexer.specs.Bytes.{line_feed, backslash, single_quote, double_quote}
 use Rattle.c_lexer.specs.Literals.{IsPlain, AreCharacters, none, plain, escaped, IsQuoted, char_prefixes, text_prefixes, IsLiteral, IsChar, IsText}
+use Rattle.c_lexer.proofs.Decisions.{Decided, decided_by, both_or_not, either_or_not, no_or_not, most_or_not, less_or_not, some_or_not, contains_or_not}
 use Rattle.c_lexer.proofs.Literals.{characters_forward, IsOpenedAt, literal_opened}
 
 -- ---- Characters
 
--- there are none where none of the three forms fits
-no_characters : (bytes : List ℕ) (quote from to : ℕ) → (from ≡ to → ⊥) → (IsPlain quote (slice_index bytes from) → AreCharacters bytes quote (from + 1) to → ⊥) → (slice_index bytes from ≡ backslash → (slice_index bytes (from + 1) ≡ line_feed → ⊥) → AreCharacters bytes quote (from + 2) to → ⊥) → AreCharacters bytes quote from to → ⊥
-no_characters bytes quote from to a b c none = a refl
-no_characters bytes quote from to a b c (plain p h) = b p h
-no_characters bytes quote from to a b c (escaped s f h) = c s f h
-
 -- a byte is plain or not
-plain_or_not : (quote byte : ℕ) → IsPlain quote byte ⊎ (IsPlain quote byte → ⊥)
+plain_or_not : (quote byte : ℕ) → Decided (IsPlain quote byte)
 plain_or_not quote byte =
-    elim (cases_eq byte line_feed) [
-      | inl e ↦ inr (λ p. p.no_feed e)
-      | inr f ↦ elim (cases_eq byte backslash) [
-        | inl e ↦ inr (λ p. p.no_backslash e)
-        | inr b ↦ elim (cases_eq byte quote) [
-          | inl e ↦ inr (λ p. p.no_quote e)
-          | inr q ↦ inl (record { no_feed = f; no_backslash = b; no_quote = q })
-        ]
-      ]
-    ]
+    decided_by _ (IsPlain quote byte)
+    (λ p. record { no_feed = p.0; no_backslash = p.1.0; no_quote = p.1.1 }) (λ p. (p.no_feed, (p.no_backslash, p.no_quote)))
+    (both_or_not _ _ (no_or_not _ (cases_eq byte line_feed)) (λ no_feed.
+    both_or_not _ _ (no_or_not _ (cases_eq byte backslash)) (λ no_backslash.
+    no_or_not _ (cases_eq byte quote))))
+
+-- the forms of characters: none, and what begins with a plain byte or with a backslash
+abbrev HasForm : List ℕ → ℕ → ℕ → ℕ → Type 0
+HasForm bytes quote from to =
+    (from ≡ to) ⊎ ((IsPlain quote (slice_index bytes from) × AreCharacters bytes quote (from + 1) to)
+    ⊎ ((slice_index bytes from ≡ backslash) × ((slice_index bytes (from + 1) ≡ line_feed → ⊥) × AreCharacters bytes quote (from + 2) to)))
+
+-- such a form is that of characters
+of_form : (bytes : List ℕ) (quote from to : ℕ) → HasForm bytes quote from to → AreCharacters bytes quote from to
+of_form bytes quote from to (inl e) = rw e none
+of_form bytes quote from to (inr (inl p)) = plain p.0 p.1
+of_form bytes quote from to (inr (inr e)) = escaped e.0 e.1.0 e.1.1
+
+-- and characters have one
+form_of : (bytes : List ℕ) (quote from to : ℕ) → AreCharacters bytes quote from to → HasForm bytes quote from to
+form_of bytes quote from to none = inl refl
+form_of bytes quote from to (plain p h) = inr (inl (p, h))
+form_of bytes quote from to (escaped s f h) = inr (inr (s, (f, h)))
 
 -- characters stand between the places, of which the second is at most n behind the first, or not
-characters_or_not : (bytes : List ℕ) (quote n from to : ℕ) → to ≤ from + n → AreCharacters bytes quote from to ⊎ (AreCharacters bytes quote from to → ⊥)
+characters_or_not : (bytes : List ℕ) (quote n from to : ℕ) → to ≤ from + n → Decided (AreCharacters bytes quote from to)
 characters_or_not bytes quote zero from to l =
-    elim (cases_eq from to) [
-      | inl e ↦ inl (rw e none)
-      | inr ne ↦ inr (λ h. let forward = characters_forward bytes quote from to h in omega arith)
-    ]
+    decided_by (from ≡ to) (AreCharacters bytes quote from to)
+    (λ e. rw e none) (λ h. let forward = characters_forward bytes quote from to h in omega arith) (cases_eq from to)
 characters_or_not bytes quote (suc n) from to l =
-    elim (cases_eq from to) [
-      | inl e ↦ inl (rw e none)
-      | inr ne ↦ elim (cases_eq (slice_index bytes from) backslash) [
-        | inl b ↦ elim (cases_eq (slice_index bytes (from + 1)) line_feed) [
-          | inl e ↦ inr (no_characters bytes quote from to ne (λ p h. p.no_backslash b) (λ s f h. f e))
-          | inr f ↦ elim (characters_or_not bytes quote n (from + 2) to (omega arith)) [
-            | inl h ↦ inl (escaped b f h)
-            | inr never ↦ inr (no_characters bytes quote from to ne (λ p h. p.no_backslash b) (λ s g h. never h))
-          ]
-        ]
-        | inr b ↦ elim (plain_or_not quote (slice_index bytes from)) [
-          | inr never ↦ inr (no_characters bytes quote from to ne (λ p h. never p) (λ s f h. b s))
-          | inl p ↦ elim (characters_or_not bytes quote n (from + 1) to (omega arith)) [
-            | inl h ↦ inl (plain p h)
-            | inr never ↦ inr (no_characters bytes quote from to ne (λ q h. never h) (λ s f h. b s))
-          ]
-        ]
-      ]
-    ]
+    decided_by (HasForm bytes quote from to) (AreCharacters bytes quote from to) (of_form bytes quote from to) (form_of bytes quote from to)
+    (either_or_not _ _ (cases_eq from to)
+    (either_or_not _ _ (both_or_not _ _ (plain_or_not quote (slice_index bytes from)) (λ p. characters_or_not bytes quote n (from + 1) to (omega arith)))
+    (both_or_not _ _ (cases_eq (slice_index bytes from) backslash) (λ s.
+    both_or_not _ _ (no_or_not _ (cases_eq (slice_index bytes (from + 1)) line_feed)) (λ f.
+    characters_or_not bytes quote n (from + 2) to (omega arith))))))
 
 -- quotes with characters between them stand at the places or not
-quoted_or_not : (bytes : List ℕ) (quote opening closing : ℕ) → IsQuoted bytes quote opening closing ⊎ (IsQuoted bytes quote opening closing → ⊥)
+pub quoted_or_not : (bytes : List ℕ) (quote opening closing : ℕ) → Decided (IsQuoted bytes quote opening closing)
 quoted_or_not bytes quote opening closing =
-    elim (cases_eq (slice_index bytes opening) quote) [
-      | inr never ↦ inr (λ q. never q.opens)
-      | inl a ↦ elim (cases_eq (slice_index bytes closing) quote) [
-        | inr never ↦ inr (λ q. never q.closes)
-        | inl b ↦ elim (characters_or_not bytes quote closing (opening + 1) closing (omega arith)) [
-          | inr never ↦ inr (λ q. never q.characters)
-          | inl h ↦ inl (record { opens = a; characters = h; closes = b })
-        ]
-      ]
-    ]
+    decided_by _ (IsQuoted bytes quote opening closing)
+    (λ q. record { opens = q.0; characters = q.1.1; closes = q.1.0 }) (λ q. (q.opens, (q.closes, q.characters)))
+    (both_or_not _ _ (cases_eq (slice_index bytes opening) quote) (λ opens.
+    both_or_not _ _ (cases_eq (slice_index bytes closing) quote) (λ closes.
+    characters_or_not bytes quote closing (opening + 1) closing (omega arith))))
 
 -- ---- Literals
 
--- a text that is not the first of the words nor one of the others is none
-no_word_is : (word : List ℕ) (words : List (List ℕ)) (text : List ℕ) → (word ≡ text → ⊥) → (Contains words text → ⊥) → (k : ℕ) → k < length (word ∷ words) → get_or (word ∷ words) k text ≡ text → ⊥
-no_word_is word words text first others zero l e = first e
-no_word_is word words text first others (suc k) l e = others (k, omega arith, e)
-
--- the words have the text or not
-word_or_not : (words : List (List ℕ)) (text : List ℕ) → Contains words text ⊎ (Contains words text → ⊥)
-word_or_not [] text = inr (λ c. let l = c.1 in omega arith)
-word_or_not (word ∷ words) text =
-    elim (cases_Bool (bytes_eq word text)) [
-      | inl equal ↦ inl (0, omega arith, (bytes_eq-Decides word text).0 equal)
-      | inr differs ↦ elim (word_or_not words text) [
-        | inl found ↦ inl (suc found.0, let l = found.1 in omega arith, found.2)
-        | inr others ↦ inr (λ c. no_word_is word words text (λ e. let equal = (bytes_eq-Decides word text).1 e in cc) others c.0 c.1 c.2)
-      ]
-    ]
-
 -- a literal whose quotes open at the place or not
-opened_or_not : (prefixes : List (List ℕ)) (quote : ℕ) (bytes : List ℕ) (from opening to : ℕ) → IsOpenedAt prefixes quote bytes from opening to ⊎ (IsOpenedAt prefixes quote bytes from opening to → ⊥)
-opened_or_not prefixes quote bytes from opening zero = inr (λ o. let e = o.end in omega arith)
+opened_or_not : (prefixes : List (List ℕ)) (quote : ℕ) (bytes : List ℕ) (from opening to : ℕ) → Decided (IsOpenedAt prefixes quote bytes from opening to)
+opened_or_not prefixes quote bytes from opening zero = inr (λ o. let end = o.end in omega arith)
 opened_or_not prefixes quote bytes from opening (suc closing) =
-    elim (word_or_not prefixes (slice_range bytes from opening)) [
-      | inr never ↦ inr (λ o. never o.prefix)
-      | inl p ↦ elim (quoted_or_not bytes quote opening closing) [
-        | inr never ↦ inr (λ o. let e = o.end in let same : o.closing ≡ closing = omega arith in never (rw same at o.quoted))
-        | inl q ↦ inl (record { prefix = p; closing = closing; quoted = q; end = omega arith })
-      ]
-    ]
+    decided_by _ (IsOpenedAt prefixes quote bytes from opening (suc closing))
+    (λ o. record { prefix = o.0; closing = closing; quoted = o.1; end = omega arith })
+    (λ o. let end = o.end in let same : o.closing ≡ closing = omega arith in (o.prefix, rw same at o.quoted))
+    (both_or_not _ _ (contains_or_not prefixes (slice_range bytes from opening)) (λ prefix. quoted_or_not bytes quote opening closing))
 
--- the place where the quotes of a literal open, with so many bytes from there to its last
-record HasOpening (prefixes : List (List ℕ)) (quote : ℕ) (bytes : List ℕ) (from to least : ℕ) : Type 0 where
-  pub opening : ℕ
-  pub forward : from ≤ opening
-  pub some : opening + least < to
-  pub opened : IsOpenedAt prefixes quote bytes from opening to
+-- the place where the quotes of a literal open, with more than so many bytes from there on
+abbrev HasOpening : List (List ℕ) → ℕ → List ℕ → ℕ → ℕ → ℕ → Type 0
+HasOpening prefixes quote bytes from to least =
+    (opening : ℕ) × ((from ≤ opening) × ((opening + least < to) × IsOpenedAt prefixes quote bytes from opening to))
 
--- among the n places from the first on is such a place or not
-opening_or_none : (prefixes : List (List ℕ)) (quote : ℕ) (bytes : List ℕ) (from to least n : ℕ) → HasOpening prefixes quote bytes from to least ⊎ ((h : HasOpening prefixes quote bytes from to least) → h.opening < from + n → ⊥)
-opening_or_none prefixes quote bytes from to least zero = inr (λ h l. let f = h.forward in omega arith)
-opening_or_none prefixes quote bytes from to least (suc n) =
-    elim (opening_or_none prefixes quote bytes from to least n) [
-      | inl found ↦ inl found
-      | inr before ↦ elim (cases_lt (from + n + least) to) [
-        | inr short ↦ inr (λ h l. let s = h.some in before h (omega arith))
-        | inl some ↦ elim (opened_or_not prefixes quote bytes from (from + n) to) [
-          | inl o ↦ inl (record { opening = from + n; forward = omega arith; some = some; opened = o })
-          | inr never ↦ inr (λ h l. elim (cases_lt h.opening (from + n)) [
-            | inl b ↦ before h b
-            | inr a ↦ let here : h.opening ≡ from + n = omega arith in never (rw here at h.opened)
-          ])
-        ]
-      ]
-    ]
-
-opening_or_not : (prefixes : List (List ℕ)) (quote : ℕ) (bytes : List ℕ) (from to least : ℕ) → HasOpening prefixes quote bytes from to least ⊎ (HasOpening prefixes quote bytes from to least → ⊥)
+-- such a place or none
+opening_or_not : (prefixes : List (List ℕ)) (quote : ℕ) (bytes : List ℕ) (from to least : ℕ) → Decided (HasOpening prefixes quote bytes from to least)
 opening_or_not prefixes quote bytes from to least =
-    elim (opening_or_none prefixes quote bytes from to least to) [
-      | inl found ↦ inl found
-      | inr never ↦ inr (λ h. let s = h.some in never h (omega arith))
-    ]
+    some_or_not (λ opening. (from ≤ opening) × ((opening + least < to) × IsOpenedAt prefixes quote bytes from opening to))
+    (λ opening. both_or_not _ _ (most_or_not from opening) (λ forward.
+    both_or_not _ _ (less_or_not (opening + least) to) (λ some.
+    opened_or_not prefixes quote bytes from opening to)))
+    to (λ opening o. let some = o.1.0 in omega arith)
 
--- such a place makes a literal
+-- it makes a literal
 abbrev literal_of : (prefixes : List (List ℕ)) (quote : ℕ) (bytes : List ℕ) (from to least : ℕ) → HasOpening prefixes quote bytes from to least → IsLiteral prefixes quote bytes from to
-literal_of prefixes quote bytes from to least h = record {
-  opening = h.opening;
-  closing = h.opened.closing;
-  forward = h.forward;
-  prefix = h.opened.prefix;
-  quoted = h.opened.quoted;
-  end = h.opened.end;
+literal_of prefixes quote bytes from to least o = let opened = o.1.1.1 in record {
+  opening = o.0;
+  closing = opened.closing;
+  forward = o.1.0;
+  prefix = opened.prefix;
+  quoted = opened.quoted;
+  end = opened.end;
 }
 
 -- a character constant stands between the places or not
-pub char_or_not : (bytes : List ℕ) (from to : ℕ) → IsChar bytes from to ⊎ (IsChar bytes from to → ⊥)
+pub char_or_not : (bytes : List ℕ) (from to : ℕ) → Decided (IsChar bytes from to)
 char_or_not bytes from to =
-    elim (opening_or_not char_prefixes single_quote bytes from to 2) [
-      | inl h ↦
-          let end = h.opened.end in
-          let some = h.some in
-          inl (record { literal = literal_of char_prefixes single_quote bytes from to 2 h; some = omega arith })
-      | inr never ↦ inr (λ c.
-          let l = c.literal in
-          let end = l.end in
-          let some = c.some in
-          never (record { opening = l.opening; forward = l.forward; some = omega arith; opened = literal_opened char_prefixes single_quote bytes from to l.opening l refl }))
-    ]
+    decided_by (HasOpening char_prefixes single_quote bytes from to 2) (IsChar bytes from to)
+    (λ o.
+    let some = o.1.1.0 in
+    let end = o.1.1.1.end in
+    record { literal = literal_of char_prefixes single_quote bytes from to 2 o; some = omega arith })
+    (λ c.
+    let l = c.literal in
+    let some = c.some in
+    let end = l.end in
+    (l.opening, (l.forward, (omega arith, literal_opened char_prefixes single_quote bytes from to l.opening l refl))))
+    (opening_or_not char_prefixes single_quote bytes from to 2)
 
 -- a string literal does or not
-pub text_or_not : (bytes : List ℕ) (from to : ℕ) → IsText bytes from to ⊎ (IsText bytes from to → ⊥)
+pub text_or_not : (bytes : List ℕ) (from to : ℕ) → Decided (IsText bytes from to)
 text_or_not bytes from to =
-    elim (opening_or_not text_prefixes double_quote bytes from to 0) [
-      | inl h ↦ inl (literal_of text_prefixes double_quote bytes from to 0 h)
-      | inr never ↦ inr (λ l.
-          let end = l.end in
-          let forward = characters_forward bytes double_quote (l.opening + 1) l.closing l.quoted.characters in
-          never (record { opening = l.opening; forward = l.forward; some = omega arith; opened = literal_opened text_prefixes double_quote bytes from to l.opening l refl }))
-    ]
+    decided_by (HasOpening text_prefixes double_quote bytes from to 0) (IsText bytes from to)
+    (literal_of text_prefixes double_quote bytes from to 0)
+    (λ l.
+    let forward = characters_forward bytes double_quote (l.opening + 1) l.closing l.quoted.characters in
+    let end = l.end in
+    (l.opening, (l.forward, (omega arith, literal_opened text_prefixes double_quote bytes from to l.opening l refl))))
+    (opening_or_not text_prefixes double_quote bytes from to 0)

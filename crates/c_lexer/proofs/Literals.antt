@@ -1,16 +1,19 @@
 -- Literals: where their quotes open, and where they are closed.
-use Rattle.std.proofs.Common.{◌≡◌, ℕ, suc, zero, ◌+◌, ◌-◌, ◌<◌, ◌≤◌, ◌⊎◌, List, [], ◌∷◌, length, slice_range, slice_index, slice_index_or, refl, sym, ap, arith, inl, inr}
+use Rattle.std.proofs.Common.{◌≡◌, ℕ, ◌+◌, ◌-◌, ◌<◌, ◌≤◌, ◌⊎◌, ◌&&◌, ◌||◌, Bool, true, false, List, [], ◌∷◌, length, nat_le, slice_range, slice_index, refl, sym, ap, subst, ◌∙◌, arith, inl, inr}
 use Rattle.std.specs.List.{Contains}
-use Rattle.std.proofs.lemmas.Bool.{cases_lt}
-use Rattle.std.proofs.lemmas.List.{get_or_past}
+use Rattle.std.proofs.lemmas.Bool.{and_parts, cases_lt, leb-true}
+use Rattle.std.proofs.lemmas.Bool.Decides.{nat_tests}
 use Rattle.c_lexer.specs.Bytes.{line_feed, backslash, single_quote, double_quote, IsLetter, IsWordByte}
 use Rattle.c_lexer.specs.Lines.{OnOneLine}
 use Rattle.c_lexer.specs.Literals.{IsPlain, AreCharacters, none, plain, escaped, IsQuoted, char_prefixes, text_prefixes, IsLiteral, IsChar, IsText}
 use Rattle.c_lexer.specs.Scanning.{IsLiteralKind, IsOnlyLiteral}
-use Rattle.c_lexer.specs.Spelling.{Spells}
+use Rattle.c_lexer.specs.Spelling.{Spells, IsName}
 use Rattle.c_lexer.specs.declared.token.Kind.{Kind}
-use Rattle.c_lexer.specs.declared.token.Kind.TheVariants.{Word, Key, Number, Char, Text, Mark, Line, Pragma}
-use Rattle.c_lexer.proofs.Parts.{part_length, part_at, part_first}
+use Rattle.c_lexer.specs.declared.token.Kind.TheVariants.{Char, Text}
+use Rattle.c_lexer.proofs.Classes.{is_name, name_is}
+use Rattle.c_lexer.proofs.Lines.{inside, one_line_joined, byte_on_one_line}
+use Rattle.c_lexer.proofs.Parts.{part_length, part_place, part_first}
+use Rattle.c_lexer.proofs.Tables.{row_passes}
 
 -- ---- Characters
 
@@ -21,7 +24,7 @@ characters_forward bytes quote from to (plain p h) = let r = characters_forward 
 characters_forward bytes quote from to (escaped b f h) = let r = characters_forward bytes quote (from + 2) to h in omega arith
 
 -- characters have no line feed
-pub characters_on_one_line : (bytes : List ℕ) (quote from to : ℕ) → AreCharacters bytes quote from to → OnOneLine bytes from to
+characters_on_one_line : (bytes : List ℕ) (quote from to : ℕ) → AreCharacters bytes quote from to → OnOneLine bytes from to
 characters_on_one_line bytes quote from to none i a b e = omega arith
 characters_on_one_line bytes quote from to (plain p h) i a b e =
     elim (cases_lt from i) [
@@ -50,7 +53,7 @@ characters_escaped bytes quote from to (plain q h) b n = plain q (characters_esc
 characters_escaped bytes quote from to (escaped s f h) b n = escaped s f (characters_escaped bytes quote (from + 2) to h b n)
 
 -- of two runs of characters from one place one goes on with the other
-pub characters_compare : (bytes : List ℕ) (quote from p q : ℕ) → AreCharacters bytes quote from p → AreCharacters bytes quote from q → AreCharacters bytes quote p q ⊎ AreCharacters bytes quote q p
+characters_compare : (bytes : List ℕ) (quote from p q : ℕ) → AreCharacters bytes quote from p → AreCharacters bytes quote from q → AreCharacters bytes quote p q ⊎ AreCharacters bytes quote q p
 characters_compare bytes quote from p q none k = inl k
 characters_compare bytes quote from p q (plain a h) none = inr (plain a h)
 characters_compare bytes quote from p q (plain a h) (plain b k) = characters_compare bytes quote (from + 1) p q h k
@@ -65,7 +68,7 @@ pub record IsStop (bytes : List ℕ) (quote at : ℕ) : Type 0 where
   pub no_escape : slice_index bytes at ≡ backslash → slice_index bytes (at + 1) ≡ line_feed
 
 -- the quote is such a place
-pub quote_stops : (bytes : List ℕ) (quote at : ℕ) → (quote ≡ backslash → ⊥) → slice_index bytes at ≡ quote → IsStop bytes quote at
+quote_stops : (bytes : List ℕ) (quote at : ℕ) → (quote ≡ backslash → ⊥) → slice_index bytes at ≡ quote → IsStop bytes quote at
 quote_stops bytes quote at odd e = record { no_plain = λ p. p.no_quote e; no_escape = λ b. absurd (odd (cc)) }
 
 -- and so is the end of the line
@@ -77,13 +80,13 @@ pub backslash_stops : (bytes : List ℕ) (quote at : ℕ) → slice_index bytes 
 backslash_stops bytes quote at b e = record { no_plain = λ p. p.no_backslash b; no_escape = λ _. e }
 
 -- from there no characters go on
-pub characters_stop : (bytes : List ℕ) (quote from to : ℕ) → IsStop bytes quote from → AreCharacters bytes quote from to → from ≡ to
+characters_stop : (bytes : List ℕ) (quote from to : ℕ) → IsStop bytes quote from → AreCharacters bytes quote from to → from ≡ to
 characters_stop bytes quote from to s none = refl
 characters_stop bytes quote from to s (plain p h) = absurd (s.no_plain p)
 characters_stop bytes quote from to s (escaped b f h) = absurd (f (s.no_escape b))
 
 -- characters come to one such place
-pub characters_stop_once : (bytes : List ℕ) (quote from p q : ℕ) → AreCharacters bytes quote from p → AreCharacters bytes quote from q → IsStop bytes quote p → IsStop bytes quote q → p ≡ q
+characters_stop_once : (bytes : List ℕ) (quote from p q : ℕ) → AreCharacters bytes quote from p → AreCharacters bytes quote from q → IsStop bytes quote p → IsStop bytes quote q → p ≡ q
 characters_stop_once bytes quote from p q h k s t =
     elim (characters_compare bytes quote from p q h k) [
       | inl r ↦ characters_stop bytes quote p q s r
@@ -91,7 +94,7 @@ characters_stop_once bytes quote from p q h k s t =
     ]
 
 -- characters come to one quote
-pub characters_once : (bytes : List ℕ) (quote from p q : ℕ) → (quote ≡ backslash → ⊥) → AreCharacters bytes quote from p → AreCharacters bytes quote from q → slice_index bytes p ≡ quote → slice_index bytes q ≡ quote → p ≡ q
+characters_once : (bytes : List ℕ) (quote from p q : ℕ) → (quote ≡ backslash → ⊥) → AreCharacters bytes quote from p → AreCharacters bytes quote from q → slice_index bytes p ≡ quote → slice_index bytes q ≡ quote → p ≡ q
 characters_once bytes quote from p q odd h k s t =
     characters_stop_once bytes quote from p q h k (quote_stops bytes quote p odd s) (quote_stops bytes quote q odd t)
 
@@ -99,6 +102,13 @@ characters_once bytes quote from p q odd h k s t =
 pub quoted_once : (bytes : List ℕ) (quote opening p q : ℕ) → (quote ≡ backslash → ⊥) → IsQuoted bytes quote opening p → IsQuoted bytes quote opening q → p ≡ q
 quoted_once bytes quote opening p q odd h k =
     characters_once bytes quote (opening + 1) p q odd h.characters k.characters h.closes k.closes
+
+-- quotes with characters between them stand on one line
+pub quoted_on_one_line : (bytes : List ℕ) (quote opening closing : ℕ) → (quote ≡ line_feed → ⊥) → IsQuoted bytes quote opening closing → OnOneLine bytes opening (closing + 1)
+quoted_on_one_line bytes quote opening closing no_feed q =
+    one_line_joined bytes opening (opening + 1) (closing + 1) (byte_on_one_line bytes opening (λ e. no_feed (sym q.opens ∙ e)))
+    (one_line_joined bytes (opening + 1) closing (closing + 1)
+    (characters_on_one_line bytes quote (opening + 1) closing q.characters) (byte_on_one_line bytes closing (λ e. no_feed (sym q.closes ∙ e))))
 
 -- the closing quote stands behind all characters after the opening one
 pub closing_behind : (bytes : List ℕ) (quote opening closing at : ℕ) → (quote ≡ backslash → ⊥) → IsQuoted bytes quote opening closing → AreCharacters bytes quote (opening + 1) at → at ≤ closing
@@ -130,34 +140,20 @@ pub record IsPrefix (text : List ℕ) : Type 0 where
   pub first : 0 < length text → IsLetter (slice_index text 0)
   pub each : (i : ℕ) → i < length text → IsWordByte (slice_index text i)
 
-no_prefix : IsPrefix []
-no_prefix = record { short = omega arith; first = λ l. absurd (omega arith); each = λ i l. absurd (omega arith) }
+-- whether a text is empty, or a name of at most two bytes
+abbrev is_prefix : List ℕ → Bool
+is_prefix text = nat_le (length text) 2 && (nat_le (length text) 0 || is_name text)
 
-letter_prefix : (byte : ℕ) → IsLetter byte → IsPrefix (byte ∷ [])
-letter_prefix byte h = record { short = omega arith; first = λ _. h; each = λ i l. let first : i ≡ 0 = omega arith in rw first (inl h) }
-
-u8_each : (i : ℕ) → i < 2 → IsWordByte (slice_index (117 ∷ 56 ∷ []) i)
-u8_each zero l = grind arith
-u8_each (suc zero) l = grind arith
-u8_each (suc (suc i)) l = absurd (omega arith)
-
-u8_prefix : IsPrefix (117 ∷ 56 ∷ [])
-u8_prefix = record { short = omega arith; first = λ _. grind arith; each = u8_each }
-
-text_prefix_at : (text : List ℕ) (k : ℕ) → k < 5 → slice_index_or text_prefixes k text ≡ text → IsPrefix text
-text_prefix_at text zero l e = rw (← e) no_prefix
-text_prefix_at text (suc zero) l e = rw (← e) u8_prefix
-text_prefix_at text (suc (suc zero)) l e = rw (← e) (letter_prefix 117 (grind arith))
-text_prefix_at text (suc (suc (suc zero))) l e = rw (← e) (letter_prefix 85 (grind arith))
-text_prefix_at text (suc (suc (suc (suc zero)))) l e = rw (← e) (letter_prefix 76 (grind arith))
-text_prefix_at text (suc (suc (suc (suc (suc k))))) l e = absurd (omega arith)
-
-char_prefix_at : (text : List ℕ) (k : ℕ) → k < 4 → slice_index_or char_prefixes k text ≡ text → IsPrefix text
-char_prefix_at text zero l e = rw (← e) no_prefix
-char_prefix_at text (suc zero) l e = rw (← e) (letter_prefix 76 (grind arith))
-char_prefix_at text (suc (suc zero)) l e = rw (← e) (letter_prefix 117 (grind arith))
-char_prefix_at text (suc (suc (suc zero))) l e = rw (← e) (letter_prefix 85 (grind arith))
-char_prefix_at text (suc (suc (suc (suc k)))) l e = absurd (omega arith)
+-- what passes the test looks as a prefix does
+prefix_is : (text : List ℕ) → is_prefix text ≡ true → IsPrefix text
+prefix_is text h =
+    let p = and_parts (nat_le (length text) 2) (nat_le (length text) 0 || is_name text) h in
+    let name : 0 < length text → IsName text = λ some. let no : nat_le (length text) 0 ≡ false = grind (arith, nat_tests) in name_is text (rw no at p.1) in
+    record {
+      short = leb-true (length text) 2 p.0;
+      first = λ some. (name some).first;
+      each = λ i l. (name (omega arith)).each i l;
+    }
 
 -- ---- Literals
 
@@ -166,34 +162,33 @@ pub record IsForm (prefixes : List (List ℕ)) (quote : ℕ) : Type 0 where
   pub prefix : (text : List ℕ) → Contains prefixes text → IsPrefix text
   pub quote_is : (quote ≡ single_quote) ⊎ (quote ≡ double_quote)
 
+-- those of a character constant
 pub char_form : IsForm char_prefixes single_quote
-char_form = record { prefix = λ text h. char_prefix_at text h.0 h.1 h.2; quote_is = inl refl }
+char_form = record { prefix = λ text h. prefix_is text (row_passes is_prefix char_prefixes refl text h); quote_is = inl refl }
 
+-- and of a string literal
 pub text_form : IsForm text_prefixes double_quote
-text_form = record { prefix = λ text h. text_prefix_at text h.0 h.1 h.2; quote_is = inr refl }
+text_form = record { prefix = λ text h. prefix_is text (row_passes is_prefix text_prefixes refl text h); quote_is = inr refl }
 
 -- no quote is a backslash
 pub quote_no_backslash : (quote : ℕ) → (quote ≡ single_quote) ⊎ (quote ≡ double_quote) → quote ≡ backslash → ⊥
 quote_no_backslash quote h e = grind arith
 
 -- or a line feed
-pub quote_no_feed : (quote : ℕ) → (quote ≡ single_quote) ⊎ (quote ≡ double_quote) → quote ≡ line_feed → ⊥
+quote_no_feed : (quote : ℕ) → (quote ≡ single_quote) ⊎ (quote ≡ double_quote) → quote ≡ line_feed → ⊥
 quote_no_feed quote h e = grind arith
 
 -- or stands in a word
 pub quote_no_word_byte : (byte : ℕ) → (byte ≡ single_quote) ⊎ (byte ≡ double_quote) → IsWordByte byte → ⊥
 quote_no_word_byte byte h w = grind arith
 
+-- no byte of a word is a line feed
 word_byte_no_feed : (byte : ℕ) → IsWordByte byte → byte ≡ line_feed → ⊥
 word_byte_no_feed byte w e = grind arith
 
 -- a quote stands within the text
-pub quote_inside : (bytes : List ℕ) (at : ℕ) → (slice_index bytes at ≡ single_quote) ⊎ (slice_index bytes at ≡ double_quote) → at < length bytes
-quote_inside bytes at h =
-    elim (cases_lt at (length bytes)) [
-      | inl l ↦ l
-      | inr l ↦ let past = get_or_past bytes at 0 l in absurd (grind arith)
-    ]
+quote_inside : (bytes : List ℕ) (at : ℕ) → (slice_index bytes at ≡ single_quote) ⊎ (slice_index bytes at ≡ double_quote) → at < length bytes
+quote_inside bytes at h = inside bytes at (grind arith)
 
 -- what stands before the quotes of a literal: at most two bytes of a word
 pub record IsPrefixed (bytes : List ℕ) (from opening : ℕ) : Type 0 where
@@ -203,6 +198,7 @@ pub record IsPrefixed (bytes : List ℕ) (from opening : ℕ) : Type 0 where
   pub first : from < opening → IsLetter (slice_index bytes from)
   pub each : (i : ℕ) → from ≤ i → i < opening → IsWordByte (slice_index bytes i)
 
+-- where such a prefix stands, its bytes do
 prefixed : (bytes : List ℕ) (from opening : ℕ) → from ≤ opening → opening < length bytes → IsPrefix (slice_range bytes from opening) → IsPrefixed bytes from opening
 prefixed bytes from opening h l p =
     let long = part_length bytes from opening (omega arith) in
@@ -211,14 +207,11 @@ prefixed bytes from opening h l p =
       forward = h;
       short = omega (arith, p.short);
       first = λ a. rw (part_first bytes from opening a) at (p.first (omega arith));
-      each = λ i a b.
-          let there : from + (i - from) < opening = omega arith in
-          let same : from + (i - from) ≡ i = omega arith in
-          rw (part_at bytes from opening (i - from) there, same) at (p.each (i - from) (omega arith));
+      each = λ i a b. rw (part_place bytes from opening i a b) at (p.each (i - from) (omega arith));
     }
 
 -- the quote that opens a literal is the quote
-pub literal_opens : (prefixes : List (List ℕ)) (quote : ℕ) (bytes : List ℕ) (from to : ℕ) → IsForm prefixes quote → (l : IsLiteral prefixes quote bytes from to) → (slice_index bytes l.opening ≡ single_quote) ⊎ (slice_index bytes l.opening ≡ double_quote)
+literal_opens : (prefixes : List (List ℕ)) (quote : ℕ) (bytes : List ℕ) (from to : ℕ) → IsForm prefixes quote → (l : IsLiteral prefixes quote bytes from to) → (slice_index bytes l.opening ≡ single_quote) ⊎ (slice_index bytes l.opening ≡ double_quote)
 literal_opens prefixes quote bytes from to f l = rw l.quoted.opens f.quote_is
 
 -- before the quotes of a literal stands a prefix
@@ -242,22 +235,13 @@ literal_last prefixes quote bytes from to l =
 
 -- a literal has no line feed
 pub literal_on_one_line : (prefixes : List (List ℕ)) (quote : ℕ) (bytes : List ℕ) (from to : ℕ) → IsForm prefixes quote → IsLiteral prefixes quote bytes from to → OnOneLine bytes from to
-literal_on_one_line prefixes quote bytes from to f l i a b e =
-    let no_feed = quote_no_feed quote f.quote_is in
-    let end = l.end in
-    elim (cases_lt i l.opening) [
-      | inl before ↦ word_byte_no_feed _ ((literal_before prefixes quote bytes from to f l).each i a before) e
-      | inr h ↦ elim (cases_lt l.opening i) [
-        | inr k ↦ let here : i ≡ l.opening = omega arith in let opens = l.quoted.opens in no_feed (cc)
-        | inl k ↦ elim (cases_lt i l.closing) [
-          | inl m ↦ characters_on_one_line bytes quote (l.opening + 1) l.closing l.quoted.characters i (omega arith) m e
-          | inr m ↦ let here : i ≡ l.closing = omega arith in let closes = l.quoted.closes in no_feed (cc)
-        ]
-      ]
-    ]
+literal_on_one_line prefixes quote bytes from to f l =
+    let before = literal_before prefixes quote bytes from to f l in
+    let quoted = quoted_on_one_line bytes quote l.opening l.closing (quote_no_feed quote f.quote_is) l.quoted in
+    one_line_joined bytes from l.opening to (λ i a b. word_byte_no_feed _ (before.each i a b)) (rw l.end quoted)
 
 -- the quotes of a literal open behind its word bytes
-pub literal_opening_once : (prefixes : List (List ℕ)) (quote : ℕ) (bytes : List ℕ) (from to n : ℕ) → from ≤ n → ((i : ℕ) → from ≤ i → i < n → IsWordByte (slice_index bytes i)) → (slice_index bytes n ≡ single_quote) ⊎ (slice_index bytes n ≡ double_quote) → IsForm prefixes quote → (l : IsLiteral prefixes quote bytes from to) → l.opening ≡ n
+literal_opening_once : (prefixes : List (List ℕ)) (quote : ℕ) (bytes : List ℕ) (from to n : ℕ) → from ≤ n → ((i : ℕ) → from ≤ i → i < n → IsWordByte (slice_index bytes i)) → (slice_index bytes n ≡ single_quote) ⊎ (slice_index bytes n ≡ double_quote) → IsForm prefixes quote → (l : IsLiteral prefixes quote bytes from to) → l.opening ≡ n
 literal_opening_once prefixes quote bytes from to n h each q f l =
     elim (cases_lt l.opening n) [
       | inl a ↦ absurd (quote_no_word_byte _ (literal_opens prefixes quote bytes from to f l) (each l.opening l.forward a))
@@ -269,20 +253,8 @@ literal_opening_once prefixes quote bytes from to n h each q f l =
 
 -- a token of such a kind is spelled as a character constant or a string literal
 pub spelled_literal : (bytes : List ℕ) (from to : ℕ) (kind : Kind) → IsLiteralKind kind → Spells bytes from to kind → IsChar bytes from to ⊎ IsText bytes from to
-spelled_literal bytes from to Word (inl e) s = absurd (cc)
-spelled_literal bytes from to Word (inr e) s = absurd (cc)
-spelled_literal bytes from to (Key k) (inl e) s = absurd (cc)
-spelled_literal bytes from to (Key k) (inr e) s = absurd (cc)
-spelled_literal bytes from to Number (inl e) s = absurd (cc)
-spelled_literal bytes from to Number (inr e) s = absurd (cc)
-spelled_literal bytes from to Char e s = inl s
-spelled_literal bytes from to Text e s = inr s
-spelled_literal bytes from to (Mark k) (inl e) s = absurd (cc)
-spelled_literal bytes from to (Mark k) (inr e) s = absurd (cc)
-spelled_literal bytes from to Line (inl e) s = absurd (cc)
-spelled_literal bytes from to Line (inr e) s = absurd (cc)
-spelled_literal bytes from to Pragma (inl e) s = absurd (cc)
-spelled_literal bytes from to Pragma (inr e) s = absurd (cc)
+spelled_literal bytes from to kind (inl e) s = inl (subst (Spells bytes from to) e s)
+spelled_literal bytes from to kind (inr e) s = inr (subst (Spells bytes from to) e s)
 
 -- word bytes stand from the place to a quote
 pub record Opens (bytes : List ℕ) (from opening : ℕ) : Type 0 where

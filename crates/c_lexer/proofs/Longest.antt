@@ -10,7 +10,7 @@ use Rattle.c_lexer.specs.Reading.{IsLongest, BeginsNoToken}
 use Rattle.c_lexer.specs.Scanning.{IsLiteralKind, IsOnlyLiteral, IsDirectiveKind, IsOnlyDirective}
 use Rattle.c_lexer.specs.declared.token.Kind.{Kind}
 use Rattle.c_lexer.specs.declared.token.Kind.TheVariants.{Word, Key, Number, Char, Text, Mark, Line, Pragma}
-use Rattle.c_lexer.proofs.Parts.{part_length, part_at, part_first}
+use Rattle.c_lexer.proofs.Parts.{part_length, part_at, part_place, part_first}
 use Rattle.c_lexer.proofs.Tables.{keyword_name}
 use Rattle.c_lexer.proofs.Marks.{mark_reach, mark_on_one_line}
 use Rattle.c_lexer.proofs.Numbers.{number_on_one_line}
@@ -25,9 +25,7 @@ use Rattle.c_lexer.proofs.Firsts.{first_of_kind}
 name_on_one_line : (bytes : List ℕ) (from to : ℕ) → to ≤ length bytes → IsName (slice_range bytes from to) → OnOneLine bytes from to
 name_on_one_line bytes from to w n i a b e =
     let l = part_length bytes from to w in
-    let f : from + (i - from) < to = omega arith in
-    let same : from + (i - from) ≡ i = omega arith in
-    let here = rw (part_at bytes from to (i - from) f, same, e) at (n.each (i - from) (omega (arith, l))) in
+    let here = rw (part_place bytes from to i a b, e) at (n.each (i - from) (omega (arith, l))) in
     grind arith
 
 -- a token stays on its line
@@ -41,6 +39,7 @@ kind_on_one_line bytes from to (Mark k) w s = mark_on_one_line bytes from to k s
 kind_on_one_line bytes from to Line w s = marker_on_one_line bytes from to s.0 s.1 s.2
 kind_on_one_line bytes from to Pragma w s = pragma_on_one_line bytes from to s
 
+-- so does the longest token
 pub longest_on_one_line : (bytes : List ℕ) (from to : ℕ) (kind : Kind) → IsLongest bytes from to kind → OnOneLine bytes from to
 longest_on_one_line bytes from to kind h = kind_on_one_line bytes from to kind h.within h.spelled
 
@@ -50,9 +49,7 @@ longest_on_one_line bytes from to kind h = kind_on_one_line bytes from to kind h
 name_ends : (bytes : List ℕ) (from n past : ℕ) → from ≤ n → n < past → past ≤ length bytes → (IsWordByte (slice_index bytes n) → ⊥) → IsName (slice_range bytes from past) → ⊥
 name_ends bytes from n past a b w none s =
     let l = part_length bytes from past w in
-    let f : from + (n - from) < past = omega arith in
-    let same : from + (n - from) ≡ n = omega arith in
-    none (rw (part_at bytes from past (n - from) f, same) at (s.each (n - from) (omega (arith, l))))
+    none (rw (part_place bytes from past n a b) at (s.each (n - from) (omega (arith, l))))
 
 -- a letter begins no number, no mark and no line with `#`
 module _ (bytes : List ℕ) (from to n : ℕ) (letter : IsLetter (slice_index bytes from)) (forward : from ≤ n) (behind : n ≤ to)
@@ -83,6 +80,7 @@ no_literal prefixes quote bytes from n to form some each ends no_quote l =
       | inr (inr h) ↦ ends (omega (arith, before.inside)) (before.each n (omega arith) h)
     ]
 
+-- nor any literal of the two kinds
 pub no_prefixed : (bytes : List ℕ) (from n : ℕ) → from < n → ((i : ℕ) → from ≤ i → i < n → IsWordByte (slice_index bytes i)) → (n < length bytes → IsWordByte (slice_index bytes n) → ⊥) → (n < length bytes → (slice_index bytes n ≡ single_quote → ⊥) × (slice_index bytes n ≡ double_quote → ⊥)) → (kind : Kind) (past : ℕ) → IsLiteralKind kind → Spells bytes from past kind → ⊥
 no_prefixed bytes from n some each ends none kind past is s = elim (spelled_literal bytes from past kind is s) [
   | inl c ↦ no_literal _ _ bytes from n past char_form some each ends (λ l. (none l).0) c.literal

@@ -1,17 +1,17 @@
 -- Punctuators.
-use Rattle.std.proofs.Common.{bytes_eq, ◌≡◌, ℕ, zero, suc, ◌+◌, ◌-◌, ◌<◌, ◌≤◌, ◌==◌, ◌&&◌, ◌||◌, ◌⊎◌, not, Bool, true, List, [], ◌∷◌, length, slice_index, slice_range, refl, ap, arith, nat_le, inl, inr}
-use Rattle.std.specs.List.{Contains, list_all}
-use Rattle.std.proofs.lemmas.Bool.{and_parts, cases_eq, cases_lt, cases_Bool, leb-true}
-use Rattle.std.proofs.lemmas.Bool.Decides.{nat_tests, not_from_Decides}
+use Rattle.std.proofs.Common.{◌≡◌, ℕ, ◌+◌, ◌-◌, ◌<◌, ◌≤◌, ◌==◌, ◌&&◌, ◌||◌, not, Bool, true, List, length, slice_index, slice_range, refl, arith, nat_le, inl, inr}
+use Rattle.std.specs.List.{list_all}
+use Rattle.std.proofs.lemmas.Bool.{and_parts, cases_lt, leb-true}
+use Rattle.std.proofs.lemmas.Bool.Decides.{nat_tests}
 use Rattle.std.proofs.lemmas.List.Sums.{AllPass-from_list_all}
-use Rattle.std.proofs.lemmas.Slice.Eq.{bytes_eq-Decides}
-use Rattle.c_lexer.specs.Bytes.{line_feed, double_quote, number_sign, percent_sign, single_quote, asterisk, slash, colon, IsLetter, IsDigit, IsBlank}
+use Rattle.c_lexer.specs.Bytes.{line_feed, double_quote, number_sign, single_quote, IsLetter, IsDigit, IsBlank}
 use Rattle.c_lexer.specs.Lines.{OnOneLine}
-use Rattle.c_lexer.specs.Comments.{IsPair}
-use Rattle.c_lexer.specs.Marks.{marks, IsMark, IsSecond, IsMarkAt}
-use Rattle.c_lexer.proofs.Parts.{part_length, part_at}
+use Rattle.c_lexer.specs.Marks.{marks, IsMark, IsMarkAt}
+use Rattle.c_lexer.specs.Scanning.{IsSecond}
+use Rattle.c_lexer.proofs.Parts.{part_length, part_at, part_place}
 use Rattle.c_lexer.proofs.Tables.{agree, one_number, row_passes}
 
+-- the rows of marks of one spelling have one number
 marks_agree : agree marks ≡ true
 unfolding marks
 marks_agree = refl
@@ -35,19 +35,23 @@ pub record IsFirst (byte : ℕ) : Type 0 where
   pub no_single : byte ≡ single_quote → ⊥
   pub no_sign : byte ≡ number_sign → ⊥
 
+-- whether a byte may stand in a mark
 abbrev is_in_mark : ℕ → Bool
 is_in_mark byte = (nat_le 33 byte && nat_le byte 126) && not ((byte == 34) || (byte == 39))
 
+-- whether it may be the first
 abbrev is_first : ℕ → Bool
 is_first byte =
     ((nat_le 33 byte && nat_le byte 47) || (nat_le 58 byte && nat_le byte 64) || (nat_le 91 byte && nat_le byte 94) || (nat_le 123 byte && nat_le byte 126))
     && not ((byte == 34) || (byte == 39) || (byte == 35))
 
+-- whether it may be the second
 abbrev is_second : ℕ → Bool
 is_second byte =
     (byte == 37) || (byte == 38) || (byte == 43) || (byte == 45) || (byte == 46) || (byte == 58) || (byte == 60) || (byte == 61)
     || (byte == 62) || (byte == 124)
 
+-- what passes the test of a byte of a mark is one
 in_mark_is : (byte : ℕ) → is_in_mark byte ≡ true → IsInMark byte
 in_mark_is byte h = record {
   no_feed = λ e. grind (arith, nat_tests);
@@ -55,6 +59,7 @@ in_mark_is byte h = record {
   no_single = λ e. grind (arith, nat_tests);
 }
 
+-- and what passes the test of a first byte
 first_is : (byte : ℕ) → is_first byte ≡ true → IsFirst byte
 first_is byte h = record {
   no_letter = λ l. grind (arith, nat_tests);
@@ -65,6 +70,7 @@ first_is byte h = record {
   no_sign = λ e. grind (arith, nat_tests);
 }
 
+-- and of a second one
 second_is : (byte : ℕ) → is_second byte ≡ true → IsSecond byte
 second_is byte h = grind (arith, nat_tests)
 
@@ -75,11 +81,12 @@ is_mark_text text =
     && ((is_first (slice_index text 0) && list_all is_in_mark text)
     && (nat_le (length text) 1 || is_second (slice_index text 1)))
 
+-- each mark passes the test
 all_marks : list_all (λ row. is_mark_text row.0) marks ≡ true
 unfolding marks
 all_marks = refl
 
--- how a mark looks
+-- how the text of a mark looks
 pub record IsMarkText (text : List ℕ) : Type 0 where
   pub some : 1 ≤ length text
   pub short : length text ≤ 3
@@ -87,6 +94,7 @@ pub record IsMarkText (text : List ℕ) : Type 0 where
   pub each : (i : ℕ) → i < length text → IsInMark (slice_index text i)
   pub second : 2 ≤ length text → IsSecond (slice_index text 1)
 
+-- what passes the test looks as a mark does
 mark_text_is : (text : List ℕ) → is_mark_text text ≡ true → IsMarkText text
 mark_text_is text h =
     let p = and_parts (nat_le 1 (length text) && nat_le (length text) 3) ((is_first (slice_index text 0) && list_all is_in_mark text) && (nat_le (length text) 1 || is_second (slice_index text 1))) h in
@@ -109,14 +117,16 @@ mark_text text number h = mark_text_is text (row_passes (λ row. is_mark_text ro
 pub mark_on_one_line : (bytes : List ℕ) (from to number : ℕ) → IsMarkAt bytes from to number → to ≤ length bytes → OnOneLine bytes from to
 mark_on_one_line bytes from to number h within i low high =
     let size = part_length bytes from to within in
-    let place : from + (i - from) < to = omega arith in
-    let same : from + (i - from) ≡ i = omega arith in
     let text = mark_text (slice_range bytes from to) number h.mark in
-    rw (part_at bytes from to (i - from) place, same) at (text.each (i - from) (omega (arith, size))).no_feed
+    rw (part_place bytes from to i low high) at (text.each (i - from) (omega (arith, size))).no_feed
 
 -- no mark of the list stands between the places
 abbrev pub NoMark : List ℕ → ℕ → ℕ → Type 0
 NoMark bytes from to = (number : ℕ) → IsMark (slice_range bytes from to) number → ⊥
+
+-- no mark of the list that begins at the first place ends past the second
+abbrev pub NoneLonger : List ℕ → ℕ → ℕ → Type 0
+NoneLonger bytes from end = (number past : ℕ) → end < past → past ≤ length bytes → IsMark (slice_range bytes from past) number → ⊥
 
 -- what stands between the places ends within three bytes, and a second byte is one that marks may have
 pub record IsReach (bytes : List ℕ) (from to : ℕ) : Type 0 where
@@ -134,78 +144,30 @@ mark_reach bytes from to number within h =
     }
 
 -- no mark is longer than one of three bytes
-pub none_past_three : (bytes : List ℕ) (from number past : ℕ) → from + 3 < past → past ≤ length bytes → IsMark (slice_range bytes from past) number → ⊥
+pub none_past_three : (bytes : List ℕ) (from : ℕ) → NoneLonger bytes from (from + 3)
 none_past_three bytes from number past longer within h = let near = (mark_reach bytes from past number within h).near in omega arith
 
 -- none is longer than one of two where none of three stands
-pub none_past_two : (bytes : List ℕ) (from : ℕ) → (from + 3 ≤ length bytes → NoMark bytes from (from + 3)) → (number past : ℕ) → from + 2 < past → past ≤ length bytes → IsMark (slice_range bytes from past) number → ⊥
+pub none_past_two : (bytes : List ℕ) (from : ℕ) → (from + 3 ≤ length bytes → NoMark bytes from (from + 3)) → NoneLonger bytes from (from + 2)
 none_past_two bytes from three number past longer within h =
     let near = (mark_reach bytes from past number within h).near in
     let end : past ≡ from + 3 = omega arith in
     three (omega arith) number (rw end at h)
 
 -- none is longer than one of one where none of two and none of three stands
-pub none_past_one : (bytes : List ℕ) (from : ℕ) → (from + 3 ≤ length bytes → NoMark bytes from (from + 3)) → (from + 2 ≤ length bytes → NoMark bytes from (from + 2)) → (number past : ℕ) → from + 1 < past → past ≤ length bytes → IsMark (slice_range bytes from past) number → ⊥
+pub none_past_one : (bytes : List ℕ) (from : ℕ) → (from + 3 ≤ length bytes → NoMark bytes from (from + 3)) → (from + 2 ≤ length bytes → NoMark bytes from (from + 2)) → NoneLonger bytes from (from + 1)
 none_past_one bytes from three two number past longer within h = elim (cases_lt (from + 2) past) [
   | inl more ↦ none_past_two bytes from three number past more within h
   | inr last ↦ let end : past ≡ from + 2 = omega arith in two (omega arith) number (rw end at h)
 ]
 
 -- none has two bytes or more where the second is of no mark
-pub none_of_two : (bytes : List ℕ) (from : ℕ) → (IsSecond (slice_index bytes (from + 1)) → ⊥) → (number past : ℕ) → from + 1 < past → past ≤ length bytes → IsMark (slice_range bytes from past) number → ⊥
+pub none_of_two : (bytes : List ℕ) (from : ℕ) → (IsSecond (slice_index bytes (from + 1)) → ⊥) → NoneLonger bytes from (from + 1)
 none_of_two bytes from no_second number past longer within h = no_second ((mark_reach bytes from past number within h).second (omega arith))
 
 -- none stands there where none of one byte does and none is longer
-pub none_at_all : (bytes : List ℕ) (from : ℕ) → NoMark bytes from (from + 1) → ((number past : ℕ) → from + 1 < past → past ≤ length bytes → IsMark (slice_range bytes from past) number → ⊥) → (number past : ℕ) → from < past → past ≤ length bytes → IsMark (slice_range bytes from past) number → ⊥
+pub none_at_all : (bytes : List ℕ) (from : ℕ) → NoMark bytes from (from + 1) → NoneLonger bytes from (from + 1) → NoneLonger bytes from from
 none_at_all bytes from one longer number past some within h = elim (cases_lt (from + 1) past) [
   | inl more ↦ longer number past more within h
   | inr last ↦ let end : past ≡ from + 1 = omega arith in one number (rw end at h)
-]
-
--- no row has the word where neither the first nor a later one does
-none_in_row : (text : List ℕ) (row : List ℕ × ℕ) (rows : List (List ℕ × ℕ)) → (row.0 ≡ text → ⊥) → ((number : ℕ) → Contains rows (text, number) → ⊥) → (number : ℕ) → Contains (row ∷ rows) (text, number) → ⊥
-none_in_row text row rows other none number (zero, within, e) = other (ap (λ (row : List ℕ × ℕ). row.0) e)
-none_in_row text row rows other none number (suc k, within, e) = none number (k, omega arith, e)
-
--- a word has a row in a table, or none
-row_or_not : (text : List ℕ) (rows : List (List ℕ × ℕ)) → ((number : ℕ) × Contains rows (text, number)) ⊎ ((number : ℕ) → Contains rows (text, number) → ⊥)
-row_or_not text [] = inr (λ number h. let past = h.1 in absurd (omega arith))
-row_or_not text (row ∷ rows) = elim (cases_Bool (bytes_eq row.0 text)) [
-  | inl same ↦ inl (row.1, (0, omega arith, ap (λ (word : List ℕ). (word, row.1)) ((bytes_eq-Decides row.0 text).0 same)))
-  | inr other ↦ elim (row_or_not text rows) [
-    | inl found ↦ let c = found.1 in inl (found.0, (suc c.0, (let within = c.1 in omega arith), c.2))
-    | inr none ↦ inr (λ number h. none_in_row text row rows (not_from_Decides (bytes_eq row.0 text) (bytes_eq-Decides row.0 text) other) none number h)
-  ]
-]
-
-pair_or_not : (bytes : List ℕ) (at first second : ℕ) → IsPair bytes at first second ⊎ (IsPair bytes at first second → ⊥)
-pair_or_not bytes at first second = elim (cases_eq (slice_index bytes at) first) [
-  | inl one ↦ elim (cases_eq (slice_index bytes (at + 1)) second) [
-    | inl two ↦ inl (record { first_is = one; second_is = two })
-    | inr other ↦ inr (λ h. other h.second_is)
-  ]
-  | inr other ↦ inr (λ h. other h.first_is)
-]
-
--- a mark stands between the places, or none
-pub mark_or_not : (bytes : List ℕ) (from to : ℕ) → ((number : ℕ) × IsMarkAt bytes from to number) ⊎ ((number : ℕ) → IsMarkAt bytes from to number → ⊥)
-mark_or_not bytes from to = elim (row_or_not (slice_range bytes from to) marks) [
-  | inr none ↦ inr (λ number h. none number h.mark)
-  | inl found ↦ elim (pair_or_not bytes from slash asterisk) [
-    | inl block ↦ inr (λ number h. h.no_comment (inl block))
-    | inr no_block ↦ elim (pair_or_not bytes from slash slash) [
-      | inl line ↦ inr (λ number h. h.no_comment (inr line))
-      | inr no_line ↦ elim (pair_or_not bytes from percent_sign colon) [
-        | inl hash ↦ inr (λ number h. h.no_hash hash)
-        | inr no_hash ↦ inl (
-          found.0,
-          record {
-            mark = found.1;
-            no_comment = λ c. elim c [ inl block ↦ no_block block | inr line ↦ no_line line ];
-            no_hash = no_hash;
-          },
-        )
-      ]
-    ]
-  ]
 ]

@@ -7,7 +7,7 @@ use Rattle.c_lexer.specs.Bytes.{IsLetter, IsDigit, IsWordByte, full_stop, number
 use Rattle.c_lexer.specs.Spelling.{Spells, IsName}
 use Rattle.c_lexer.specs.declared.token.Kind.{Kind}
 use Rattle.c_lexer.specs.declared.token.Kind.TheVariants.{Word, Key, Number, Char, Text, Mark, Line, Pragma}
-use Rattle.c_lexer.proofs.Parts.{part_length, part_at}
+use Rattle.c_lexer.proofs.Parts.{part_length, part_at, part_place}
 use Rattle.c_lexer.proofs.Classes.{is_letter, is_digit}
 use Rattle.c_lexer.proofs.Tables.{keyword_name, keyword_once}
 use Rattle.c_lexer.specs.Numbers.{IsNumber}
@@ -28,6 +28,7 @@ sort_by first second last =
     else if is_digit first || ((first == 46) && is_digit second) then 4
     else 5
 
+-- the sort of a kind
 abbrev sort_of : Kind → ℕ
 sort_of Word = 3
 sort_of (Key number) = 3
@@ -38,18 +39,23 @@ sort_of (Mark number) = 5
 sort_of Line = 0
 sort_of Pragma = 0
 
+-- a name has its sort
 name_sort : (first second last : ℕ) → IsLetter first → IsWordByte last → sort_by first second last ≡ 3
 name_sort first second last f l = grind (arith, nat_tests)
 
+-- so has a number
 number_sort : (first second last : ℕ) → IsDigit first ⊎ ((first ≡ full_stop) × IsDigit second) → (last ≡ single_quote → ⊥) → (last ≡ double_quote → ⊥) → sort_by first second last ≡ 4
 number_sort first second last f a b = grind (arith, nat_tests)
 
+-- and a character constant
 char_sort : (first second last : ℕ) → (first ≡ single_quote) ⊎ IsLetter first → last ≡ single_quote → sort_by first second last ≡ 1
 char_sort first second last f l = grind (arith, nat_tests)
 
+-- and a string literal
 text_sort : (first second last : ℕ) → (first ≡ double_quote) ⊎ IsLetter first → last ≡ double_quote → sort_by first second last ≡ 2
 text_sort first second last f l = grind (arith, nat_tests)
 
+-- and a mark
 mark_sort : (first second last : ℕ) → IsFirst first → (IsDigit second → ⊥) → (last ≡ single_quote → ⊥) → (last ≡ double_quote → ⊥) → sort_by first second last ≡ 5
 mark_sort first second last f s a b =
     let letter = f.no_letter in
@@ -57,6 +63,7 @@ mark_sort first second last f s a b =
     let sign = f.no_sign in
     grind (arith, nat_tests)
 
+-- and a line with `#`
 line_sort : (first second last : ℕ) → first ≡ number_sign → sort_by first second last ≡ 0
 line_sort first second last f = grind (arith, nat_tests)
 
@@ -65,15 +72,12 @@ abbrev sort_at : List ℕ → ℕ → ℕ → ℕ
 sort_at bytes from to = sort_by (slice_index bytes from) (slice_index (slice_range bytes from to) 1) (slice_index bytes (to - 1))
 
 -- the last byte of a part, in the part
-last_of : (bytes : List ℕ) (from to : ℕ) → from < to → slice_index (slice_range bytes from to) (to - from - 1) ≡ slice_index bytes (to - 1)
-last_of bytes from to h =
-    let l : from + (to - from - 1) < to = omega arith in
-    let same : from + (to - from - 1) ≡ to - 1 = omega arith in
-    rw (part_at bytes from to (to - from - 1) l, same) refl
+last_of : (bytes : List ℕ) (from to : ℕ) → from < to → slice_index (slice_range bytes from to) (to - 1 - from) ≡ slice_index bytes (to - 1)
+last_of bytes from to h = part_place bytes from to (to - 1) (omega arith) (omega arith)
 
 -- a name's last byte is a word byte
 name_last : (bytes : List ℕ) (from to : ℕ) → from < to → to ≤ length bytes → IsName (slice_range bytes from to) → IsWordByte (slice_index bytes (to - 1))
-name_last bytes from to h w n = let l = part_length bytes from to w in rw (last_of bytes from to h) at (n.each (to - from - 1) (omega (arith, l)))
+name_last bytes from to h w n = let l = part_length bytes from to w in rw (last_of bytes from to h) at (n.each (to - 1 - from) (omega (arith, l)))
 
 -- a number's first bytes, as those of its part
 number_begins : (bytes : List ℕ) (from to : ℕ) → from < to → IsNumber bytes from to → IsDigit (slice_index bytes from) ⊎ ((slice_index bytes from ≡ full_stop) × IsDigit (slice_index (slice_range bytes from to) 1))
@@ -101,7 +105,7 @@ sort_is bytes from to Text h w s = text_sort (slice_index bytes from) (slice_ind
 sort_is bytes from to (Mark k) h w s =
     let m = mark_text _ k s.mark in
     let l = part_length bytes from to w in
-    let last = rw (last_of bytes from to h) at (m.each (to - from - 1) (omega (arith, l))) in
+    let last = rw (last_of bytes from to h) at (m.each (to - 1 - from) (omega (arith, l))) in
     mark_sort (slice_index bytes from) (slice_index (slice_range bytes from to) 1) (slice_index bytes (to - 1)) (first_of_kind bytes from to (Mark k) h w s) (mark_no_digit _ m) last.no_single last.no_double
 sort_is bytes from to Line h w s = line_sort (slice_index bytes from) (slice_index (slice_range bytes from to) 1) (slice_index bytes (to - 1)) s.2.sign
 sort_is bytes from to Pragma h w s = line_sort (slice_index bytes from) (slice_index (slice_range bytes from to) 1) (slice_index bytes (to - 1)) s.sign

@@ -18,6 +18,7 @@ passes_once bytes {p = p} {q = q} (onward a r) (onward b s) f g =
     let same = passed_once bytes _ _ _ b a in
     passes_once bytes r (subst (λ via. PassesOver bytes via q) same s) f g
 
+-- so does all that is passed over
 all_once : (bytes : List ℕ) (from p q : ℕ) → PassesAll bytes from p → PassesAll bytes from q → p ≡ q
 all_once bytes from p q a b = passes_once bytes a.passed b.passed a.no_more b.no_more
 
@@ -29,6 +30,7 @@ one_end bytes from p q k j a b = elim (cases_order p q) [
   | inr (inr l) ↦ absurd (b.longest k p l a.within a.spelled)
 ]
 
+-- tokens with the same fields are the same
 same_token : (t u : Token) → t.kind ≡ u.kind → t.start ≡ u.start → t.end ≡ u.end → t.line ≡ u.line → t.column ≡ u.column → t ≡ u
 same_token t u a b c d e =
     let f : Kind → ℕ → ℕ → ℕ → ℕ → Token = λ k x y z w. record { kind = k; start = x; end = y; line = z; column = w } in

@@ -1,6 +1,5 @@
 -- Lines and columns.
-use Rattle.std.proofs.Common.{◌≡◌, ◌==◌, ℕ, suc, zero, ◌+◌, ◌-◌, ◌<◌, ◌≤◌, not, true, false, List, length, take, slice_index, refl, ap, add-zero, arith, eq-eqb, length-take, length-drop, get_or-take, inl, inr}
-use Rattle.std.proofs.lemmas.Bool.{cases_lt}
+use Rattle.std.proofs.Common.{◌≡◌, ◌==◌, ℕ, suc, zero, ◌+◌, ◌-◌, ◌<◌, ◌≤◌, not, true, false, List, length, take, slice_index, refl, ap, add-zero, arith, eq-eqb, length-take, length-drop, get_or-take}
 use Rattle.std.proofs.lemmas.List.Sums.{count_by_more_no, suffix_len_is}
 use Rattle.std.specs.List.{suffix_len}
 use Rattle.c_lexer.specs.Bytes.{line_feed}
@@ -12,6 +11,7 @@ same_line bytes at h none =
     let no : (slice_index bytes at == line_feed) ≡ false = grind (arith, none) in
     ap (λ n. n + 1) (count_by_more_no (λ b. b == line_feed) bytes at 0 h no)
 
+-- nor do any number of them
 same_line_on : (bytes : List ℕ) (from n : ℕ) → from + n ≤ length bytes → OnOneLine bytes from (from + n) → line_at bytes (from + n) ≡ line_at bytes from
 same_line_on bytes from zero h none = rw add-zero refl
 same_line_on bytes from (suc n) h none =
@@ -42,7 +42,3 @@ column_of bytes start at low within none feed =
     let yes : (slice_index bytes (start - 1) == line_feed) ≡ true = eq-eqb _ _ (feed h) in
     rw (get_or-take, yes) refl) in
     rw length-drop (omega (arith, run, long))
-
--- two parts without a line feed that follow each other have none together
-pub one_line_joined : (bytes : List ℕ) (start at to : ℕ) → OnOneLine bytes start at → OnOneLine bytes at to → OnOneLine bytes start to
-one_line_joined bytes start at to f g i a b = elim (cases_lt i at) [ inl h ↦ f i a h | inr h ↦ g i h b ]

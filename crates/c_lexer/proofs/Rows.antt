@@ -6,6 +6,7 @@ use Rattle.std.proofs.lemmas.List.{get_or-map, length-map}
 use Rattle.std.proofs.lemmas.List.Sums.{AllPass-from_list_all}
 use Rattle.c_lexer.specs.WordTable.{rows_of, slot_of, are_placed}
 
+-- a row of the code's table
 abbrev Row : Type 0
 Row = Bor (List ℕ) × ℕ
 

@@ -11,7 +11,7 @@ reads_passed bytes from via [] stop p h = (record { passed = onward p h.0.passed
 reads_passed bytes from via (token ∷ tokens) stop p h = (record { passed = onward p h.0.passed; no_more = h.0.no_more }, h.1, h.2)
 
 -- where nothing is passed over, that is all
-pub passes_none : (bytes : List ℕ) (at : ℕ) → ((to : ℕ) → IsPassed bytes at to → ⊥) → PassesAll bytes at at
+passes_none : (bytes : List ℕ) (at : ℕ) → ((to : ℕ) → IsPassed bytes at to → ⊥) → PassesAll bytes at at
 passes_none bytes at none = record { passed = nothing; no_more = none }
 
 -- the token is read before the rest

@@ -9,9 +9,10 @@ use Rattle.c_lexer.specs.Spelling.{IsName}
 use Rattle.c_lexer.proofs.Classes.{is_name, name_is}
 
 -- a test that all rows pass is passed by each
-pub row_passes : (test : List ℕ × ℕ → Bool) (rows : List (List ℕ × ℕ)) → list_all test rows ≡ true → (row : List ℕ × ℕ) → Contains rows row → test row ≡ true
+pub row_passes : {A : Type 0} (test : A → Bool) (rows : List A) → list_all test rows ≡ true → (row : A) → Contains rows row → test row ≡ true
 row_passes test rows h row c = rw c.2 at (AllPass-from_list_all test rows h c.0 row c.1)
 
+-- each keyword passes the test of a name
 all_names : list_all (λ row. is_name row.0) keywords ≡ true
 unfolding keywords
 all_names = refl
@@ -20,10 +21,11 @@ all_names = refl
 pub keyword_name : (text : List ℕ) (number : ℕ) → IsKeyword text number → IsName text
 keyword_name text number h = name_is text (row_passes (λ row. is_name row.0) keywords all_names (text, number) h)
 
--- rows of one word have one number
+-- whether rows of one word have one number
 abbrev pub agree : List (List ℕ × ℕ) → Bool
 agree rows = list_all (λ row. list_all (λ other. not (bytes_eq row.0 other.0) || (row.1 == other.1)) rows) rows
 
+-- where they do, a word has one number
 pub one_number : (rows : List (List ℕ × ℕ)) → agree rows ≡ true → (text : List ℕ) (k j : ℕ) → Contains rows (text, k) → Contains rows (text, j) → k ≡ j
 one_number rows h text k j a b =
     let test = λ (row other : List ℕ × ℕ). not (bytes_eq row.0 other.0) || (row.1 == other.1) in
@@ -32,6 +34,7 @@ one_number rows h text k j a b =
     let same = (bytes_eq-Decides text text).1 refl in
     eqb-true k j (rw same at pair)
 
+-- the rows of keywords do
 keywords_agree : agree keywords ≡ true
 unfolding keywords
 keywords_agree = refl

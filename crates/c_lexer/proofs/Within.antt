@@ -16,6 +16,7 @@ passes_forward bytes (onward {from} {via} {to} p q) =
     let later = passes_forward bytes q in
     omega arith
 
+-- from a place on no more tokens follow than bytes
 few_from : (bytes : List ℕ) (from stop : ℕ) (tokens : List Token) → Reads bytes from tokens stop → from + length tokens ≤ stop
 few_from bytes from stop [] h = let e = passes_forward bytes h.0.passed in omega arith
 few_from bytes from stop (token ∷ tokens) h =
@@ -28,6 +29,7 @@ few_from bytes from stop (token ∷ tokens) h =
 pub few_tokens : (bytes : List ℕ) (tokens : List Token) → AreTokensOf bytes tokens → length tokens ≤ length bytes
 few_tokens bytes tokens h = let e = few_from bytes 0 (length bytes) tokens h in omega arith
 
+-- each token that follows stands in the text
 within_from : (bytes : List ℕ) (from stop : ℕ) (tokens : List Token) (i : ℕ) (d : Token) → Reads bytes from tokens stop → i < length tokens → IsWithin bytes (get_or tokens i d)
 within_from bytes from stop [] i d h l = absurd (omega arith)
 within_from bytes from stop (token ∷ tokens) zero d h l =

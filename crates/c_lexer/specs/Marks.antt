@@ -1,6 +1,6 @@
 -- Punctuators (C11 6.4.6).
 
-use Rattle.std.specs.Prelude.{ℕ, ◌≡◌, ◌⊎◌, List, [], ◌∷◌, codes, slice_range}
+use Rattle.std.specs.Prelude.{ℕ, List, [], ◌∷◌, codes, slice_range}
 use Rattle.std.specs.List.{Contains}
 use Rattle.c_lexer.specs.Bytes.{percent_sign, colon}
 use Rattle.c_lexer.specs.Comments.{IsPair, BeginsComment}
@@ -24,12 +24,6 @@ marks =
 -- The text spells the mark with the number.
 abbrev pub IsMark : List ℕ → ℕ → Type 0
 IsMark text number = Contains marks (text, number)
-
--- What may be the second byte of a mark: `%`, `&`, `+`, `-`, `.`, `:`, `<`, `=`, `>` or `|`.
-abbrev pub IsSecond : ℕ → Type 0
-IsSecond byte =
-    (byte ≡ 37) ⊎ (byte ≡ 38) ⊎ (byte ≡ 43) ⊎ (byte ≡ 45) ⊎ (byte ≡ 46) ⊎ (byte ≡ 58) ⊎ (byte ≡ 60)
-    ⊎ (byte ≡ 61) ⊎ (byte ≡ 62) ⊎ (byte ≡ 124)
 
 -- `%:` stands there, the digraph of `#` (p3).
 abbrev pub BeginsHash : List ℕ → ℕ → Type 0

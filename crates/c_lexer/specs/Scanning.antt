@@ -33,6 +33,12 @@ pub record IsOnlyDirective (bytes : List ℕ) (from to : ℕ) (kind : Kind) : Ty
   pub only : (other : Kind) (past : ℕ) → past ≤ length bytes → IsDirectiveKind other →
       Spells bytes from past other → past ≡ to
 
+-- What may be the second byte of a mark: `%`, `&`, `+`, `-`, `.`, `:`, `<`, `=`, `>` or `|`.
+abbrev pub IsSecond : ℕ → Type 0
+IsSecond byte =
+    (byte ≡ 37) ⊎ (byte ≡ 38) ⊎ (byte ≡ 43) ⊎ (byte ≡ 45) ⊎ (byte ≡ 46) ⊎ (byte ≡ 58) ⊎ (byte ≡ 60)
+    ⊎ (byte ≡ 61) ⊎ (byte ≡ 62) ⊎ (byte ≡ 124)
+
 -- The gap is the longest from `from` on.
 pub record EndsGap (bytes : List ℕ) (from to : ℕ) : Type 0 where
   pub gap : IsGap bytes from to

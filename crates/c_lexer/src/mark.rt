@@ -3,7 +3,8 @@
 //! A mark's number is its place in this list. A digraph has the number of what it stands for.
 
 ghost use Rattle.std.specs.Prelude.{ℕ, ◌<◌, ◌≤◌, ◌^◌, ◌↔◌, length, slice_range, IsTrue, MatchOption};
-ghost use Rattle.c_lexer.specs.Marks.{BeginsHash, IsMark, IsMarkAt, IsSecond};
+ghost use Rattle.c_lexer.specs.Marks.{BeginsHash, IsMark, IsMarkAt};
+ghost use Rattle.c_lexer.specs.Scanning.{IsSecond};
 
 use crate::comment::begins_comment;
 use crate::lexer::MAX_FILE_BYTES;

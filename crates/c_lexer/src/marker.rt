@@ -27,7 +27,6 @@ pub struct Marker<'b> {
 /// What a line marker says, of its token.
 pub fn marker_of<'b>(bytes: &'b [u8], token: &Token) -> Marker<'b>
     requires small { length bytes.now ≤ MAX_FILE_BYTES }
-    requires within { token.now.end ≤ length bytes.now }
     requires marker { IsLineMarker bytes.now token.now.start token.now.end }
     ensures { IsMarkerOf bytes.entry.now token.now.start token.now.end result.line
         (file_of result) }

@@ -1,8 +1,8 @@
 use Rattle.std.proofs.Common.{◌≡◌, ◌+◌, slice_index, arith}
 use Rattle.std.proofs.lemmas.List.{get_or_past}
-use Rattle.c_lexer.specs.Bytes.{backslash, line_feed}
+use Rattle.c_lexer.specs.Bytes.{line_feed}
 use Rattle.c_lexer.specs.Literals.{IsPlain, none}
-use Rattle.c_lexer.proofs.Literals.{characters_plain, characters_escaped, closing_behind, never_closed, feed_stops, backslash_stops}
+use Rattle.c_lexer.proofs.Literals.{characters_plain, characters_escaped, closing_behind, never_closed, feed_stops, backslash_stops, quote_no_backslash}
 use Rattle.c_lexer.proofs.literal.closing_quote.Goals as goal
 use Rattle.c_lexer.proofs.literal.closing_quote.Goals.{then-byte-eq92+else-at-bytes, else-at-bytes-via-then-at-bytes+else-bytes-at-eq10, else-at-bytes-via-else-at-bytes, else-byte-eq92}
 
@@ -13,14 +13,14 @@ loop-at-init c = record { low = omega arith; high = omega arith; characters = no
 pub returns-then-byte-eq10 : goal.returns-then-byte-eq10
 returns-then-byte-eq10 c closing l q =
     let quote = slice_index c.args.bytes.now c.args.opening in
-    let odd : quote ≡ backslash → ⊥ = λ e. let r = c.requires.quote in grind arith in
+    let odd = quote_no_backslash quote c.requires.quote in
     never_closed _ _ _ _ _ odd c.loop-at.invariant.characters (feed_stops _ quote _ c.if-byte-eq10.true) c.if-byte-quote.false q
 
 -- So does a backslash before one.
 pub returns-then-bytes-at-eq10 : goal.returns-then-bytes-at-eq10
 returns-then-bytes-at-eq10 c closing l q =
     let quote = slice_index c.args.bytes.now c.args.opening in
-    let odd : quote ≡ backslash → ⊥ = λ e. let r = c.requires.quote in grind arith in
+    let odd = quote_no_backslash quote c.requires.quote in
     never_closed _ _ _ _ _ odd c.loop-at.invariant.characters (backslash_stops _ quote _ c.if-byte-eq92.true c.if-bytes-at-eq10.true) c.if-byte-quote.false q
 
 -- A plain byte, or a backslash and what it escapes.
@@ -45,6 +45,6 @@ loop-at-preserved c =
 pub returns : goal.returns
 returns c closing l q =
     let quote = slice_index c.args.bytes.now c.args.opening in
-    let odd : quote ≡ backslash → ⊥ = λ e. let r = c.requires.quote in grind arith in
+    let odd = quote_no_backslash quote c.requires.quote in
     let behind = closing_behind _ _ _ _ _ odd q c.loop-at.invariant.characters in
     omega arith

@@ -1,8 +1,7 @@
-use Rattle.std.proofs.Common.{ℕ, ◌+◌, ◌<◌, ◌≤◌, length, slice_range, rules, arith}
+use Rattle.std.proofs.Common.{◌+◌, rules, arith}
 use Rattle.std.proofs.lemmas.Bool.{false≢true}
 use Rattle.std.proofs.lemmas.Option.{MatchOption-at_none}
-use Rattle.c_lexer.specs.Marks.{IsMark}
-use Rattle.c_lexer.proofs.Marks.{none_past_three, none_past_two, none_past_one, none_of_two, none_at_all}
+use Rattle.c_lexer.proofs.Marks.{NoneLonger, none_past_three, none_past_two, none_past_one, none_of_two, none_at_all}
 use Rattle.c_lexer.proofs.mark.longest_mark.Goals as goal
 use Rattle.c_lexer.proofs.mark.longest_mark.Goals.{After-mark_of-2, then-left-ge2+then-continues_mark+else-left-ge3+in_default, else-left-ge3-via-else-left-ge3, else-left-ge3-via-then-left-ge3+in-None-1, else-left-ge2, else-left-ge2-via-then-left-ge2+else-continues_mark, else-left-ge2-via-else-left-ge2}
 
@@ -22,7 +21,7 @@ returns-in-Some-mark_of c = (
 )
 
 -- no mark is longer than one byte
-none_longer : (c : After-mark_of-2) (number past : ℕ) → c.args.at + 1 < past → past ≤ length c.args.bytes.now → IsMark (slice_range c.args.bytes.now c.args.at past) number → ⊥
+none_longer : (c : After-mark_of-2) → NoneLonger c.args.bytes.now c.args.at (c.args.at + 1)
 none_longer c = elim c.if-left-ge2.branch [
   | then-left-ge2+then-continues_mark+else-left-ge3+in_default w ↦ none_past_one c.args.bytes.now c.args.at
       (elim w.else-left-ge3.branch [

@@ -2,14 +2,14 @@ use Rattle.std.proofs.Common.{ℕ, ◌<◌, ◌≤◌, List, length, slice_range
 use Rattle.std.proofs.lemmas.Bool.{false≢true}
 use Rattle.c_lexer.specs.Comments.{BeginsComment}
 use Rattle.c_lexer.specs.Marks.{BeginsHash, IsMark, IsMarkAt}
+use Rattle.c_lexer.proofs.Marks.{NoneLonger}
 use Rattle.c_lexer.proofs.mark.mark_at.Goals as goal
 
 -- a mark of the table is one at the place where neither a comment nor a `%:` begins
 placed : (bytes : List ℕ) (at : ℕ) → (BeginsComment bytes at → ⊥) → (BeginsHash bytes at → ⊥) → (found : Option (ℕ × ℕ)) →
     MatchOption found
-    ((number past : ℕ) → at < past → past ≤ length bytes → IsMark (slice_range bytes at past) number → ⊥)
-    (λ m. (at < m.1) × (m.1 ≤ length bytes) × IsMark (slice_range bytes at m.1) m.0
-    × ((number past : ℕ) → m.1 < past → past ≤ length bytes → IsMark (slice_range bytes at past) number → ⊥)) →
+    (NoneLonger bytes at at)
+    (λ m. (at < m.1) × (m.1 ≤ length bytes) × IsMark (slice_range bytes at m.1) m.0 × NoneLonger bytes at m.1) →
     MatchOption found
     ((number past : ℕ) → at < past → past ≤ length bytes → IsMarkAt bytes at past number → ⊥)
     (λ m. (at < m.1) × (m.1 ≤ length bytes) × IsMarkAt bytes at m.1 m.0

@@ -1,6 +1,7 @@
 use Rattle.std.proofs.Common.{slice_index, arith, rules}
 use Rattle.c_lexer.specs.Bytes.{IsDigit}
-use Rattle.c_lexer.proofs.LineNumbers.{run_more, value_more, number_too_large}
+use Rattle.c_lexer.proofs.LineNumbers.{value_more, number_too_large}
+use Rattle.c_lexer.proofs.Parts.{run_more}
 use Rattle.c_lexer.proofs.marker.line_number.Goals as goal
 
 pub returns-then-line-gt-MAX_LINE : goal.returns-then-line-gt-MAX_LINE
@@ -17,7 +18,7 @@ loop-past-preserved c =
     record {
       low = omega arith;
       high = omega arith;
-      digits = run_more IsDigit c.args.bytes.now c.args.from c.loop-past.past i.digits digit;
+      digits = run_more (λ i. IsDigit (slice_index c.args.bytes.now i)) c.args.from c.loop-past.past i.digits digit;
       value = omega arith;
       small = omega arith;
     }

@@ -1,14 +1,13 @@
-use Rattle.std.proofs.Common.{◌≡◌, refl, arith, inl, inr}
-use Rattle.std.proofs.lemmas.Bool.{cases_lt}
+use Rattle.std.proofs.Common.{refl, arith}
+use Rattle.c_lexer.specs.Numbers.{IsNumberByte}
+use Rattle.c_lexer.proofs.Parts.{run_more}
 use Rattle.c_lexer.proofs.number.number_end.Goals as goal
 
 pub loop-end-preserved : goal.loop-end-preserved
-loop-end-preserved c = record {
-  some = omega arith;
-  high = omega arith;
-  each = λ i low high.
-      elim (cases_lt i c.loop-end.end) [
-        | inl before ↦ c.loop-end.invariant.each i low before
-        | inr past ↦ let here : i ≡ c.loop-end.end = omega arith in rw here (c.if-is_number_byte.ensures.0 refl)
-      ];
-}
+loop-end-preserved c =
+    let i = c.loop-end.invariant in
+    record {
+      some = omega arith;
+      high = omega arith;
+      each = run_more (IsNumberByte c.args.bytes.now c.args.from) c.args.from c.loop-end.end i.each (c.if-is_number_byte.ensures.0 refl);
+    }
