@@ -75,7 +75,6 @@ fn behind<'b>(
 ) -> Result<Presumption, AllocError>
     requires few { length names.old.keys + 1 < 2 ^ 32 }
     requires small { length bytes.now ≤ MAX_FILE_BYTES }
-    requires within { token.now.end ≤ length bytes.now }
     requires line { token.now.line ≤ length bytes.now + 1 }
     requires marker { IsLineMarker bytes.now token.now.start token.now.end }
     ensures after { IfOk result (λ after.

@@ -47,9 +47,6 @@ place_of-requires c =
 pub behind-requires-clause-few : goal.behind-requires-clause-few
 behind-requires-clause-few c = let few = few_tokens c.args.bytes.now c.args.tokens.now c.requires.tokens in omega arith
 
-pub behind-requires-clause-within : goal.behind-requires-clause-within
-behind-requires-clause-within c = (token_is c.args.bytes.now c.args.tokens.now c.loop-token.token-index blank c.requires.tokens c.loop-token-test.true).longest.within
-
 pub behind-requires-clause-line : goal.behind-requires-clause-line
 behind-requires-clause-line c =
     let token = token_is c.args.bytes.now c.args.tokens.now c.loop-token.token-index blank c.requires.tokens c.loop-token-test.true in
