@@ -1,6 +1,6 @@
--- The tokens that are kept are among the tokens, and no more than they.
-use Rattle.std.proofs.Common.{◌≡◌, ℕ, zero, suc, ◌+◌, ◌<◌, ◌≤◌, List, [], ◌∷◌, length, Option, Some, None, arith}
-use Rattle.std.specs.Prelude.{All}
+-- The tokens that are kept are among the tokens, no more than they, and each stands at its place among the kept or later.
+use Rattle.std.proofs.Common.{◌≡◌, ℕ, zero, suc, ◌+◌, ◌<◌, ◌≤◌, List, [], ◌∷◌, length, slice_index, Option, Some, None, arith}
+use Rattle.std.specs.Prelude.{All, EachIndex}
 use Rattle.std.proofs.lemmas.List.Elements.{All-nil, All-cons}
 use Rattle.c_lexer.specs.declared.token.Kind.{Kind}
 use Rattle.c_lexer.specs.declared.token.Token.{Token}
@@ -69,6 +69,24 @@ inside_from tokens before at kept stop (keeping.Strips.keeps {kept = more} kind 
 -- the positions are those of tokens
 pub kept_inside : (tokens : List Token) (kept : List ℕ) → AreKept tokens kept → All (λ position. position < length tokens) kept
 kept_inside tokens kept are = inside_from tokens None 0 kept are.stop are.strips
+
+-- from `at` on, the position at place k is at least at + k
+ahead_from : (tokens : List Token) (before : Option Kind) (at : ℕ) (kept : List ℕ) (stop : ℕ) → Strips tokens before at kept stop →
+    (k : ℕ) → k < length kept → at + k ≤ slice_index kept k
+ahead_from tokens before at kept stop (keeping.Strips.ends is) k inside = absurd (omega arith)
+ahead_from tokens before at kept stop (keeping.Strips.stops bad) k inside = absurd (omega arith)
+ahead_from tokens before at kept stop (keeping.Strips.drops to is rest) k inside =
+    let forward = dropped_within tokens before at to is in
+    let later = ahead_from tokens before to kept stop rest k inside in
+    omega arith
+ahead_from tokens before at kept stop (keeping.Strips.keeps {kept = more} kind is rest) zero inside = omega arith
+ahead_from tokens before at kept stop (keeping.Strips.keeps {kept = more} kind is rest) (suc k) inside =
+    let later = ahead_from tokens (Some kind) (at + 1) more stop rest k (omega arith) in
+    omega arith
+
+-- the position at place k is at least k
+pub kept_ahead : (tokens : List Token) (kept : List ℕ) → AreKept tokens kept → EachIndex kept (λ k. k ≤ slice_index kept k)
+kept_ahead tokens kept are = λ k inside. let ahead = ahead_from tokens None 0 kept are.stop are.strips k inside in omega arith
 
 -- no more tokens are kept than there are
 pub few_stripped : (bytes : List ℕ) (tokens : List Token) (positions : List ℕ) (kept : List Token) → IsStrippedTo bytes tokens positions kept →

@@ -1,11 +1,12 @@
 -- Items at positions of a list.
-use Rattle.std.proofs.Common.{◌≡◌, ℕ, zero, suc, ◌+◌, ◌<◌, List, [], ◌∷◌, ◌++◌, length, map, take, slice_index, Some, refl, sym, ◌∙◌, ap, subst, arith}
+use Rattle.std.proofs.Common.{◌≡◌, ◌≢◌, ℕ, zero, suc, ◌+◌, ◌<◌, ◌≤◌, List, [], ◌∷◌, ◌++◌, length, map, take, get_or, slice_index, Some, refl, sym, ◌∙◌, ap, subst, arith, get_or-set_other}
+use Rattle.std.proofs.Math.ListN.{set}
 use Rattle.std.specs.Prelude.{All, slice_get}
 use Rattle.std.specs.List.{AllZip}
-use Rattle.std.proofs.lemmas.List.{take_more}
+use Rattle.std.proofs.lemmas.List.{length-set, take_all, take_more, take_more_set}
 use Rattle.std.proofs.lemmas.Slice.Zip.{all_zipped_more}
 use Rattle.std.proofs.lemmas.List.Elements.{All-nil, All-cons}
-use Rattle.std.proofs.lemmas.Option.{same_Some, slice_get_within, get_or_from_slice_get}
+use Rattle.std.proofs.lemmas.Option.{same_Some, slice_get_read, slice_get_within, get_or_from_slice_get}
 use Rattle.joern_top.specs.Source.{StandAt}
 
 -- the positions have one list of items
@@ -34,6 +35,42 @@ one_more_stands all positions at xs x inside stand is =
     let P : List ℕ → Type 0 = λ places. StandAt all places (xs ++ x ∷ []) in
     subst P (sym (take_more positions at 0 inside))
     (all_zipped_more (λ position item. slice_get all position ≡ Some item) (take at positions) xs (slice_index positions at) x stand is)
+
+-- The first items stand at their positions, of which there are `at`, and those from there on are as they were.
+pub record AreMoved {A : Type 0} (all : List A) (positions : List ℕ) (at : ℕ) (items : List A) : Type 0 where
+  pub many : length items ≡ length all
+  pub moved : StandAt all (take at positions) (take at items)
+  pub left : (k : ℕ) (d : A) → at ≤ k → get_or items k d ≡ get_or all k d
+
+-- before the first all are as they were
+pub none_moved : {A : Type 0} (all : List A) (positions : List ℕ) → AreMoved all positions 0 all
+none_moved all positions = record { many = refl; moved = tt; left = λ k d past. refl }
+
+-- one more is moved, from no earlier place than it is put
+pub one_more_moved : {A : Type 0} (all : List A) (positions : List ℕ) (at : ℕ) (items : List A) (x : A) → AreMoved all positions at items →
+    at < length positions → at ≤ slice_index positions at → slice_index positions at < length all →
+    x ≡ get_or items (slice_index positions at) x → AreMoved all positions (at + 1) (set items at x)
+one_more_moved {A} all positions at items x are inside ahead within is =
+    let position : ℕ = slice_index positions at in
+    let many = are.many in
+    let here : at < length items = omega arith in
+    let read : slice_get all position ≡ Some x = slice_get_read all _ position x refl within (is ∙ are.left position x ahead) in
+    record {
+      many = length-set items at x ∙ many;
+      moved = subst (StandAt all (take (at + 1) positions)) (sym (take_more_set items at x here))
+          (one_more_stands all positions at (take at items) x inside are.moved read);
+      left = λ k d past.
+          let other : k ≢ at = omega arith in
+          get_or-set_other items at k x d other ∙ are.left k d (omega arith);
+    }
+
+-- after the last the items are cut down to those that were moved
+pub all_moved : {A : Type 0} (all : List A) (positions : List ℕ) (at : ℕ) (items : List A) → AreMoved all positions at items → at ≡ length positions →
+    StandAt all positions (take (length positions) items)
+all_moved all positions at items are end =
+    let whole : take (length positions) positions ≡ positions = take_all (length positions) positions (omega arith) in
+    let moved = rw end at are.moved in
+    rw whole at moved
 
 -- what holds of all holds of those
 pub all_standing : {A : Type 0} (P : A → Type 0) (all : List A) (positions : List ℕ) (xs : List A) → All P all → StandAt all positions xs → All P xs

@@ -1,6 +1,6 @@
 //! The tokens of a source that the parser keeps.
 
-ghost use Rattle.std.specs.Prelude.{◌≡◌, ◌<◌, ◌≤◌, ℕ, length, IfOk, IsErrOf};
+ghost use Rattle.std.specs.Prelude.{◌≡◌, ◌<◌, ◌≤◌, ℕ, length, slice_index, EachIndex, IfOk, IsErrOf};
 ghost use Rattle.std.specs.List.{All};
 ghost use Rattle.c_lexer.specs.Reading.{AreTokensOf};
 ghost use Rattle.line_marks.specs.Kept.{AreKept};
@@ -17,7 +17,7 @@ use c_lexer::laws::law_within_the_text;
 use c_lexer::{LexStop, Token, lex};
 use joern_io::{Bytes, List};
 use line_marks::{Place, Places, StripStop, places_of, strip};
-use std::alloc::{AllocError, Global};
+use std::alloc::Global;
 
 /// The tokens that the parser keeps, with their presumed places.
 #[derive(Drop)]
@@ -44,20 +44,25 @@ impl KeptTokens {
     }
 }
 
-/// The kept tokens of the source of this name. All its other tokens are given back.
+/// The kept tokens of the source of this name.
+///
+/// They and their places are moved forward in the memory of all its tokens and places, so that no
+/// second list is filled.
 pub(crate) fn read_kept(alloc: Global, name: &str, bytes: &[u8]) -> Result<KeptTokens, SourceStop>
     requires { length bytes.now ≤ MAX_FILE_BYTES }
     ensures ok { IfOk result (λ kept. IsKeptOf name.now bytes.now kept) }
     ensures refused { (refusal : refusal_of) → IsErrOf result (SourceStop.Refused refusal) →
         IsRefusedAs bytes.now refusal }
 {
-    let tokens = read_tokens(alloc, bytes)?;
+    let mut tokens = read_tokens(alloc, bytes)?;
     let positions = kept_positions(alloc, bytes, &tokens)?;
-    let kept = items_at(alloc, &tokens, &positions)?;
     let Places { places, files } = places_of(alloc, bytes, &tokens, name)?;
+    let mut places = places.into_vec();
+    keep_at(&mut tokens, &positions);
+    keep_at(&mut places, &positions);
     Ok(KeptTokens {
-        places: items_at(alloc, places.items(), &positions)?,
-        tokens: kept,
+        tokens,
+        places,
         files,
     })
 }
@@ -100,14 +105,14 @@ fn kept_positions(alloc: Global, bytes: &[u8], tokens: &[Token]) -> Result<Vec<u
     }
 }
 
-/// The items at the positions, in their order.
-fn items_at<T: Copy>(alloc: Global, items: &[T], positions: &[u32]) -> Result<Vec<T>, AllocError>
-    requires { All (λ position. position < length items.now) positions.now }
-    ensures { IfOk result (λ chosen. StandAt items.now positions.now chosen.items) }
+/// Keeps the items at the positions, in their order. Each is moved forward in place, or stays.
+fn keep_at<T: Copy>(items: &mut Vec<T>, positions: &[u32])
+    requires inside { All (λ position. position < length items.old.items) positions.now }
+    requires ahead { EachIndex positions.now (λ k. k ≤ slice_index positions.now k) }
+    ensures { StandAt items.old.items positions.now items.new.items }
 {
-    let mut chosen = Vec::with_capacity(alloc, positions.len())?;
-    for position in positions {
-        chosen.push(items[*position as usize])?;
+    for (kept, position) in positions.iter().enumerate() {
+        items[kept] = items[*position as usize];
     }
-    Ok(chosen)
+    items.truncate(positions.len());
 }
