@@ -1,5 +1,6 @@
 //! Statements of sums and assignments (C11 6.5.6, 6.5.16, 6.8.3).
 
+ghost use Rattle.std.specs.Prelude.{◌≡◌, ◌++◌, ◌∷◌, [], OnOk};
 ghost use Rattle.first_grammar.specs.Reads.{Reads};
 ghost use Rattle.first_grammar.specs.Grammar.{BegunAt, OperandAt, AddendsAt, StatementAt};
 
@@ -9,6 +10,19 @@ use c_lexer::Kind;
 use c_lexer::mark::{MARK_EQUAL, MARK_PLUS, MARK_SEMICOLON};
 use c_tree::{Assign, Binary, BlockItem, Cond, Expr, Prefixed, Stmt, StmtKind, list_of_one};
 use joern_io::List;
+use std::alloc::{AllocError, Global};
+
+/// Adds an item to a list. The first takes memory for one, since most lists have no more.
+fn add<T: Drop>(alloc: Global, list: &mut List<T>, item: T) -> Result<(), AllocError>
+    ensures { OnOk result (list.new ≡ list.old ++ item ∷ []) }
+{
+    if list.items().is_empty() {
+        *list = list_of_one(alloc, item)?;
+    } else {
+        list.push(item)?;
+    }
+    Ok(())
+}
 
 impl<'t> Cursor<'t> {
     /// An expression and `;`.
@@ -40,7 +54,7 @@ impl<'t> Cursor<'t> {
         let mut targets = List::new(self.alloc());
         let mut operand = self.operand()?;
         while let Some(equal) = self.take_if(Kind::Mark(MARK_EQUAL)) {
-            targets.push((operand, equal))?;
+            add(self.alloc(), &mut targets, (operand, equal))?;
             operand = self.operand()?;
         }
         Ok((targets, operand))
@@ -53,7 +67,7 @@ impl<'t> Cursor<'t> {
         let mut addends = List::new(self.alloc());
         while let Some(plus) = self.take_if(Kind::Mark(MARK_PLUS)) {
             let operand = self.operand()?;
-            addends.push((plus, operand))?;
+            add(self.alloc(), &mut addends, (plus, operand))?;
         }
         Ok(addends)
     }

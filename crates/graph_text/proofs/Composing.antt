@@ -1,10 +1,9 @@
 -- Two texts that are printed one after the other.
-use Rattle.std.proofs.Common.{◌≡◌, ℕ, ◌+◌, ◌≤◌, ◌⊎◌, inl, inr, Bool, true, false, List, [], ◌++◌, length, Option, Result, Ok, Err, OnErr, refl, sym, ◌∙◌, ap, subst, append_assoc, arith}
+use Rattle.std.proofs.Common.{◌≡◌, ℕ, ◌≤◌, ◌⊎◌, inl, inr, Bool, true, false, List, [], ◌++◌, Option, Result, Ok, Err, OnErr, refl, sym, ◌∙◌, ap, subst, append_assoc, arith}
 use Rattle.std.proofs.lemmas.Bool.{true≢false}
 use Rattle.std.proofs.lemmas.List.{append-nil}
 use Rattle.joern_io.specs.declared.files.Failed.{Failed}
-use Rattle.joern_io.specs.Faults.{Rose}
-use Rattle.joern_io.specs.Writing.{Appends, AppendsProperPrefix}
+use Rattle.joern_io.specs.Writing.{AppendsProperPrefix}
 use Rattle.graph_text.specs.Printing.{Output, Keeps, Fails, Prints}
 use Rattle.graph_text.proofs.Prefixes.{Appends-none, Appends-then, AppendsProperPrefix-longer, AppendsProperPrefix-then}
 

@@ -1,5 +1,5 @@
 -- What a sink took in one call and then in another.
-use Rattle.std.proofs.Common.{◌≡◌, ℕ, ◌+◌, ◌<◌, ◌≤◌, List, ◌++◌, length, take, [], Option, Some, None, refl, append_assoc, arith, length-append}
+use Rattle.std.proofs.Common.{ℕ, ◌+◌, ◌≤◌, List, ◌++◌, length, take, [], Option, Some, None, refl, append_assoc, arith, length-append}
 use Rattle.std.proofs.lemmas.List.{append-nil, take-append-le}
 use Rattle.std.proofs.Math.Seq.{take-append-add}
 use Rattle.joern_io.specs.Writing.{Appends, AppendsProperPrefix}

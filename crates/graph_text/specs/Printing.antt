@@ -1,5 +1,5 @@
 -- What a printer and its sink do with a text: bytes wait in a fixed buffer, and go to the sink when it is full.
-use Rattle.std.specs.Prelude.{ℕ, ◌≡◌, ◌≤◌, ◌⊎◌, Bool, true, false, List, ◌++◌, Option}
+use Rattle.std.specs.Prelude.{ℕ, ◌≡◌, ◌≤◌, Bool, true, false, List, ◌++◌, Option}
 use Rattle.joern_io.specs.Faults.{Rose}
 use Rattle.joern_io.specs.Writing.{Appends, AppendsProperPrefix}
 

@@ -1,5 +1,4 @@
 -- The plain node and the plain edge that a view stands for.
-use Rattle.std.specs.Prelude.{ℕ, List, Option}
 use Rattle.std.specs.Option.{option_copied}
 use Rattle.cpg_schema.specs.Graph.{PlainNode, PlainEdge}
 use Rattle.graph_text.specs.declared.views.NodeView.{NodeView}

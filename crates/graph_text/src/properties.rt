@@ -1,3 +1,4 @@
+ghost use Rattle.std.specs.Prelude.{◌≡◌};
 ghost use Rattle.std.specs.Option.{option_copied};
 ghost use Rattle.cpg_schema.specs.Lines.{key_text, text_property, number_property, properties_text};
 ghost use Rattle.graph_text.specs.Printing.{output, Prints};
@@ -52,8 +53,23 @@ impl Printer {
         ensures { Prints (output (S.took sink.old) (S.faults sink.old) self.old)
             (output (S.took sink.new) (S.faults sink.new) self.new) (key_text key) }
     {
-        self.text(sink, b" ");
-        self.verbatim(sink, key.name());
-        self.text(sink, b"=");
+        self.verbatim(sink, text_of(key));
+    }
+}
+
+/// ` KEY=`, in one piece: a line has four of them.
+fn text_of(key: Key) -> &'static str
+    ensures { result.now ≡ key_text key }
+{
+    match key {
+        Key::Name => " NAME=",
+        Key::Code => " CODE=",
+        Key::Filename => " FILENAME=",
+        Key::LineNumber => " LINE_NUMBER=",
+        Key::Order => " ORDER=",
+        Key::ArgumentIndex => " ARGUMENT_INDEX=",
+        Key::TypeFullName => " TYPE_FULL_NAME=",
+        Key::ControlStructureType => " CONTROL_STRUCTURE_TYPE=",
+        Key::Linkage => " LINKAGE=",
     }
 }

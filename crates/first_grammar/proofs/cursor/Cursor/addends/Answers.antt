@@ -18,4 +18,4 @@ loop-plus-preserved c =
     let run = runs_push AddendAt c.loop-plus.addends (c.in-Some.plus, c.in_ok-operand.operand) c.args.self.now
     c.loop-plus.self c.operand.new.self c.loop-plus.invariant
     (c.take_if.new.self, c.in-Some.ensures, c.in_ok-operand.ensures) in
-    subst (λ xs. Runs AddendAt xs c.args.self.now c.operand.new.self) (sym c.in_ok-push.ensures.ok) run
+    subst (λ xs. Runs AddendAt xs c.args.self.now c.operand.new.self) (sym c.in_ok-add.ensures) run

@@ -30,6 +30,6 @@ loop-equal-preserved c =
     let run = runs_push TargetAt c.loop-equal.targets (c.loop-equal.operand, c.in-Some.equal) c.args.self.now
     between c.take_if.new.self c.loop-equal.invariant.1 target in (
       c.take_if.new.self,
-      subst (λ xs. Runs TargetAt xs c.args.self.now c.take_if.new.self) (sym c.in_ok-push.ensures.ok) run,
+      subst (λ xs. Runs TargetAt xs c.args.self.now c.take_if.new.self) (sym c.in_ok-add.ensures) run,
       c.in_ok-operand-2.ensures,
     )

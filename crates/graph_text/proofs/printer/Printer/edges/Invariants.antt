@@ -1,6 +1,6 @@
 use Rattle.std.proofs.Common.{take}
 use Rattle.std.specs.Prelude.{flat_map}
-use Rattle.cpg_schema.specs.Lines.{node_lines, edge_line}
+use Rattle.cpg_schema.specs.Lines.{edge_line}
 use Rattle.graph_text.specs.Printing.{output, Prints}
 use Rattle.graph_text.proofs.printer.Printer.edges.Given as goal
 

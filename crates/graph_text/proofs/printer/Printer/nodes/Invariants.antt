@@ -1,6 +1,5 @@
 use Rattle.std.proofs.Common.{take}
-use Rattle.std.specs.Prelude.{flat_map}
-use Rattle.cpg_schema.specs.Lines.{node_lines, edge_line}
+use Rattle.cpg_schema.specs.Lines.{node_lines}
 use Rattle.graph_text.specs.Printing.{output, Prints}
 use Rattle.graph_text.proofs.printer.Printer.nodes.Given as goal
 
