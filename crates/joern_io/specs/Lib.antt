@@ -1,8 +1,8 @@
 pub mod Faults
+pub mod Sinks
 pub mod Held
-pub mod Reading
-pub mod Writing
-pub mod Shelf
+pub mod Files
 pub mod Tape
+pub mod Shelf
 pub mod Disk
 pub mod formers

@@ -1,7 +1,8 @@
+//! Files in memory.
 ghost use Rattle.std.specs.Prelude.{◌≡◌, ◌≢◌, ◌≤◌, ◌⊎◌, ◌↔◌, [], Some, None, true, min, take, length, is_some, Contains, IsTrue, IsSome, IsErr, IfOk, IfSome, IfNone, OnOk, OnErr};
 ghost use Rattle.joern_io.specs.Faults.{next_count};
 ghost use Rattle.joern_io.specs.Held.{file_of};
-ghost use Rattle.joern_io.specs.Reading.{Reads};
+ghost use Rattle.joern_io.specs.Files.{ReadsLeft};
 ghost use Rattle.joern_io.specs.Shelf.{NamesDiffer, KeepsShelf, read_length, held_of, bytes_at, left_at, IsWithin};
 
 use crate::files::{Failed, Files};
@@ -56,8 +57,8 @@ impl Shelf {
     /// calls of `open` and of `read` are numbered together, from 1. A call of a name that is not
     /// held has a number too.
     pub fn new(files: Vec<(String, Vec<u8>)>, piece: usize, fails: Vec<u32>) -> Shelf
-        requires names { NamesDiffer (held_of files.items) }
-        requires piece { 1 ≤ piece }
+        requires names_differ { NamesDiffer (held_of files.items) }
+        requires some { 1 ≤ piece }
         ensures { result ≡ record {
           files = held_of files.items;
           piece = piece;
@@ -113,13 +114,12 @@ impl Shelf {
 }
 
 impl Files for Shelf {
-    ghost held = { λ shelf. Some shelf.files };
-
-    ghost left = { λ shelf. shelf.left };
-
-    ghost is_open = { λ shelf. is_some shelf.left };
-
-    ghost faults = { λ shelf. shelf.faults };
+    ghost state = { λ shelf. record {
+      held = Some shelf.files;
+      left = shelf.left;
+      is_open = is_some shelf.left;
+      faults = shelf.faults;
+    } };
 
     /// Opens the file of this name. It fails exactly where the name is not held or the number of
     /// this call is listed, and only the latter, of a name that is held, is a fault.
@@ -132,15 +132,16 @@ impl Files for Shelf {
             ↔ ((file_of self.old.files name.now ≡ None) ⊎ Contains self.old.fails self.new.calls) }
 
         // What is left to be read.
-        ensures ok_open { OnOk result (IsSome self.new.left) }
-        ensures ok_left { OnOk result (self.new.left ≡ file_of self.old.files name.now) }
-        ensures err_left { OnErr result (self.new.left ≡ None) }
+        ensures open { OnOk result (IsSome self.new.left) }
+        ensures ok { OnOk result (self.new.left ≡ file_of self.old.files name.now) }
+        ensures err { OnErr result (self.new.left ≡ None) }
 
         // The count of faults.
         ensures never_falls { self.old.faults ≤ self.new.faults }
         ensures ok_faults { OnOk result (self.new.faults ≡ self.old.faults) }
-        ensures lacks { file_of self.old.files name.now ≡ None → self.new.faults ≡ self.old.faults }
-        ensures err_faults { IsSome (file_of self.old.files name.now) →
+        ensures lacks { file_of self.old.files name.now ≡ None →
+            self.new.faults ≡ self.old.faults }
+        ensures failed_faults { IsSome (file_of self.old.files name.now) →
             OnErr result (self.new.faults ≡ next_count self.old.faults) }
     {
         self.calls = self.calls.saturating_add(1);
@@ -158,7 +159,7 @@ impl Files for Shelf {
     /// Reads the next piece of the open file. It fails exactly where the number of this call is
     /// listed.
     fn read(&mut self, into: &mut [u8]) -> Result<usize, Failed>
-        requires { IsSome self.old.left }
+        requires open { IsSome self.old.left }
         ensures keeps { KeepsShelf self.old self.new }
 
         // The number of this call is the count of calls with it.
@@ -167,14 +168,14 @@ impl Files for Shelf {
 
         // What is read, and what is left.
         ensures count { IfOk result (λ count. count ≡ read_length self.old into.new) }
-        ensures ok { IfOk result (λ count. Reads self.old.left self.new.left count into.new) }
+        ensures ok { IfOk result (λ count. ReadsLeft self.old.left self.new.left count into.new) }
         ensures open { IsSome self.new.left }
-        ensures err_left { OnErr result (self.new.left ≡ self.old.left) }
+        ensures err { OnErr result (self.new.left ≡ self.old.left) }
 
         // The count of faults.
         ensures never_falls { self.old.faults ≤ self.new.faults }
         ensures ok_faults { OnOk result (self.new.faults ≡ self.old.faults) }
-        ensures err_faults { OnErr result (self.new.faults ≡ next_count self.old.faults) }
+        ensures failed_faults { OnErr result (self.new.faults ≡ next_count self.old.faults) }
     {
         self.calls = self.calls.saturating_add(1);
         if is_listed(&self.fails, self.calls) {
