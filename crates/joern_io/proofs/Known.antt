@@ -1,5 +1,5 @@
 -- What is known of the bytes that a reader has left and that a writer holds, call after call.
-use Rattle.std.proofs.Common.{◌≡◌, ℕ, List, [], take, Option, Some, None, refl, ◌∙◌}
+use Rattle.std.proofs.Common.{ℕ, List, take, Option, Some, None, refl, ◌∙◌}
 use Rattle.std.proofs.lemmas.List.{append-nil}
 use Rattle.std.specs.Io.KnownBytes.{Keeps, Appends, Consumes}
 
