@@ -12,7 +12,6 @@ use Rattle.c_lexer.specs.declared.marker.FoundMarker.{FoundMarker}
 use Rattle.c_lexer.specs.declared.token.FoundToken.{FoundToken}
 use Rattle.c_lexer.specs.Spelling.{Spells}
 use Rattle.c_lexer.specs.declared.token.Kind.{Kind}
-use Rattle.c_lexer.specs.declared.token.Kind.TheVariants.{Line, Pragma}
 use Rattle.c_lexer.proofs.Parts.{part_offset, part_first, run_more, run_once}
 use Rattle.c_lexer.proofs.Literals.{quoted_once, quoted_on_one_line, characters_forward}
 use Rattle.c_lexer.proofs.Lines.{inside, line_end, one_end, one_line_joined, byte_on_one_line, no_blank_past, blanks_once, blanks_on_one_line}

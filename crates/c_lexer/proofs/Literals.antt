@@ -9,7 +9,6 @@ use Rattle.c_lexer.specs.Literals.{IsPlain, AreCharacters, none, plain, escaped,
 use Rattle.c_lexer.specs.Scanning.{IsLiteralKind}
 use Rattle.c_lexer.specs.Spelling.{Spells, IsName}
 use Rattle.c_lexer.specs.declared.token.Kind.{Kind}
-use Rattle.c_lexer.specs.declared.token.Kind.TheVariants.{Char, Text}
 use Rattle.c_lexer.proofs.Classes.{is_name, name_is}
 use Rattle.c_lexer.proofs.Lines.{inside, one_line_joined, byte_on_one_line}
 use Rattle.c_lexer.proofs.Parts.{part_length, part_offset, part_first}
