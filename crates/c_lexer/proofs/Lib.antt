@@ -3,8 +3,10 @@ pub mod Rows
 pub mod Parts
 pub mod Classes
 pub mod Tables
+pub mod Positions
+pub mod Finding
 pub mod Lines
-pub mod Places
+pub mod Offsets
 pub mod Numbers
 pub mod Literals
 pub mod Marks

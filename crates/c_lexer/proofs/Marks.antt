@@ -6,19 +6,20 @@ use Rattle.std.proofs.lemmas.Bool.Decides.{nat_tests}
 use Rattle.std.proofs.lemmas.List.Sums.{AllPass-from_list_all}
 use Rattle.c_lexer.specs.Bytes.{line_feed, double_quote, number_sign, single_quote, IsLetter, IsDigit, IsBlank}
 use Rattle.c_lexer.specs.Lines.{OnOneLine}
+use Rattle.c_lexer.specs.Entries.{numbers_of}
 use Rattle.c_lexer.specs.Marks.{marks, IsMark, IsMarkAt}
 use Rattle.c_lexer.specs.Scanning.{IsSecond}
-use Rattle.c_lexer.proofs.Parts.{part_length, part_at, part_place}
+use Rattle.c_lexer.proofs.Parts.{part_length, part_at, part_offset}
 use Rattle.c_lexer.proofs.Tables.{agree, one_number, row_passes}
 
 -- the rows of marks of one spelling have one number
-marks_agree : agree marks ≡ true
+marks_agree : agree (numbers_of marks) ≡ true
 unfolding marks
 marks_agree = refl
 
 -- a mark has one number
 pub mark_once : (text : List ℕ) (k j : ℕ) → IsMark text k → IsMark text j → k ≡ j
-mark_once = one_number marks marks_agree
+mark_once = one_number (numbers_of marks) marks_agree
 
 -- a byte of a mark ends no line and is no quote
 pub record IsInMark (byte : ℕ) : Type 0 where
@@ -82,7 +83,7 @@ is_mark_text text =
     && (nat_le (length text) 1 || is_second (slice_index text 1)))
 
 -- each mark passes the test
-all_marks : list_all (λ row. is_mark_text row.0) marks ≡ true
+all_marks : list_all (λ row. is_mark_text row.0) (numbers_of marks) ≡ true
 unfolding marks
 all_marks = refl
 
@@ -111,29 +112,29 @@ mark_text_is text h =
 
 -- a mark of the list looks so
 pub mark_text : (text : List ℕ) (number : ℕ) → IsMark text number → IsMarkText text
-mark_text text number h = mark_text_is text (row_passes (λ row. is_mark_text row.0) marks all_marks (text, number) h)
+mark_text text number h = mark_text_is text (row_passes (λ row. is_mark_text row.0) (numbers_of marks) all_marks (text, number) h)
 
 -- a mark stands on one line
 pub mark_on_one_line : (bytes : List ℕ) (from to number : ℕ) → IsMarkAt bytes from to number → to ≤ length bytes → OnOneLine bytes from to
 mark_on_one_line bytes from to number h within i low high =
     let size = part_length bytes from to within in
     let text = mark_text (slice_range bytes from to) number h.mark in
-    rw (part_place bytes from to i low high) at (text.each (i - from) (omega (arith, size))).no_feed
+    rw (part_offset bytes from to i low high) at (text.each (i - from) (omega (arith, size))).no_feed
 
--- no mark of the list stands between the places
+-- no mark of the list stands between the offsets
 abbrev pub NoMark : List ℕ → ℕ → ℕ → Type 0
 NoMark bytes from to = (number : ℕ) → IsMark (slice_range bytes from to) number → ⊥
 
--- no mark of the list that begins at the first place ends past the second
+-- no mark of the list that begins at the first offset ends past the second
 abbrev pub NoneLonger : List ℕ → ℕ → ℕ → Type 0
 NoneLonger bytes from end = (number past : ℕ) → end < past → past ≤ length bytes → IsMark (slice_range bytes from past) number → ⊥
 
--- what stands between the places ends within three bytes, and a second byte is one that marks may have
+-- what stands between the offsets ends within three bytes, and a second byte is one that marks may have
 pub record IsReach (bytes : List ℕ) (from to : ℕ) : Type 0 where
   pub near : to ≤ from + 3
   pub second : from + 2 ≤ to → IsSecond (slice_index bytes (from + 1))
 
--- a mark that stands between the places does so
+-- a mark that stands between the offsets does so
 pub mark_reach : (bytes : List ℕ) (from to number : ℕ) → to ≤ length bytes → IsMark (slice_range bytes from to) number → IsReach bytes from to
 mark_reach bytes from to number within h =
     let size = part_length bytes from to within in

@@ -1,6 +1,7 @@
 -- Each text has a reading.
 use Rattle.std.proofs.Common.{◌≡◌, ℕ, suc, zero, ◌+◌, ◌-◌, ◌<◌, ◌≤◌, ◌⊎◌, List, [], ◌∷◌, length, slice_range, refl, arith, inl, inr}
 use Rattle.std.proofs.lemmas.Bool.{cases_lt}
+use Rattle.c_lexer.specs.Entries.{numbers_of}
 use Rattle.c_lexer.specs.Keywords.{keywords, IsKeyword}
 use Rattle.c_lexer.specs.Numbers.{IsNumber}
 use Rattle.c_lexer.specs.Literals.{IsChar, IsText}
@@ -29,7 +30,7 @@ word_or_not : (text : List ℕ) → Decided (IsWord text)
 word_or_not text =
     decided_by _ (IsWord text)
     (λ w. record { name = w.0; no_keyword = λ number k. w.1 (number, k) }) (λ w. (w.name, λ k. w.no_keyword k.0 k.1))
-    (both_or_not _ _ (name_or_not text) (λ name. no_or_not _ (row_or_not keywords text)))
+    (both_or_not _ _ (name_or_not text) (λ name. no_or_not _ (row_or_not (numbers_of keywords) text)))
 
 -- the forms of a token
 abbrev HasForm : List ℕ → ℕ → ℕ → Type 0
@@ -64,15 +65,15 @@ form_of bytes from to Pragma s = inr (inr (inr (inr (inr (inr (inr s))))))
 spelled_or_not : (bytes : List ℕ) (from to : ℕ) → Decided ((kind : Kind) × Spells bytes from to kind)
 spelled_or_not bytes from to =
     decided_by (HasForm bytes from to) ((kind : Kind) × Spells bytes from to kind) (of_form bytes from to) (λ s. form_of bytes from to s.0 s.1)
-    (either_or_not _ _ (word_or_not (slice_range bytes from to)) (either_or_not _ _ (row_or_not keywords (slice_range bytes from to))
+    (either_or_not _ _ (word_or_not (slice_range bytes from to)) (either_or_not _ _ (row_or_not (numbers_of keywords) (slice_range bytes from to))
     (either_or_not _ _ (number_or_not bytes from to) (either_or_not _ _ (char_or_not bytes from to) (either_or_not _ _ (text_or_not bytes from to)
     (either_or_not _ _ (mark_or_not bytes from to) (either_or_not _ _ (marker_or_not bytes from to) (pragma_or_not bytes from to))))))))
 
--- the longest token at a place
+-- the longest token at a offset
 abbrev HasLongest : List ℕ → ℕ → Type 0
 HasLongest bytes from = (to : ℕ) × (kind : Kind) × IsLongest bytes from to kind
 
--- the longest token at a place, where none ends past `from + n`, or none
+-- the longest token at a offset, where none ends past `from + n`, or none
 longest_up_to : (bytes : List ℕ) (from n : ℕ) → from + n ≤ length bytes → ((kind : Kind) (past : ℕ) → from + n < past → past ≤ length bytes → Spells bytes from past kind → ⊥) → HasLongest bytes from ⊎ BeginsNoToken bytes from
 longest_up_to bytes from zero h above = inr (λ kind to a b s. above kind to (omega arith) b s)
 longest_up_to bytes from (suc n) h above =
@@ -84,21 +85,21 @@ longest_up_to bytes from (suc n) h above =
       ])
     ]
 
--- the longest token at a place, or none
+-- the longest token at a offset, or none
 longest_or_none : (bytes : List ℕ) (from : ℕ) → from ≤ length bytes → HasLongest bytes from ⊎ BeginsNoToken bytes from
 longest_or_none bytes from h =
     longest_up_to bytes from (length bytes - from) (omega arith) (λ kind past a b s. absurd (omega arith))
 
 -- ---- Readings
 
--- from the place on the text is read
+-- from the offset on the text is read
 record HasReading (bytes : List ℕ) (from : ℕ) : Type 0 where
   tokens : List Token
   stop : ℕ
   within : stop ≤ length bytes
   reads : Reads bytes from tokens stop
 
--- from each place the text has a reading
+-- from each offset the text has a reading
 reading_from : (bytes : List ℕ) (n from : ℕ) → length bytes ≤ from + n → from ≤ length bytes → HasReading bytes from
 reading_from bytes zero from h l = record { tokens = []; stop = from; within = l; reads = reads_end bytes from (omega arith) }
 reading_from bytes (suc n) from h l =
