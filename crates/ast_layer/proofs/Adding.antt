@@ -1,8 +1,7 @@
 -- What is added in two steps is added in one.
-use Rattle.std.proofs.Common.{◌≡◌, List, [], ◌∷◌, ◌++◌, refl, sym, ap, ◌∙◌, append_assoc, append-nil}
+use Rattle.std.proofs.Common.{◌≡◌, List, [], ◌++◌, refl, append_assoc, append-nil}
 use Rattle.cpg_schema.specs.Graph.{PlainNode, PlainEdge}
-use Rattle.ast_layer.specs.Source.{File}
-use Rattle.ast_layer.specs.Building.{Built, adding, Adds}
+use Rattle.ast_layer.specs.Building.{Built, adding}
 
 pub adding-file : (a : Built) (nodes : List PlainNode) (edges : List PlainEdge) →
     (adding a nodes edges).file ≡ a.file
@@ -28,10 +27,5 @@ pub adding-none : (a : Built) → adding a [] [] ≡ a
 unfolding adding
 adding-none a = simp append-nil
 
--- A change after a change is one change.
-pub adds-then : (a b c : Built) (n m : List PlainNode) (e f : List PlainEdge) →
-    Adds a b n e → Adds b c m f → Adds a c (n ++ m) (e ++ f)
-adds-then a b c n m e f first second =
-    second ∙ (ap (λ (x : Built). adding x m f) first ∙ adding-twice a n m e f)
-
+-- What is known of each step, for a proof by several steps.
 pub ruleset adding_laws = (adding-file, adding-nodes, adding-edges, adding-twice, adding-none, append-nil)

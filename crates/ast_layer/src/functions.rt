@@ -59,7 +59,7 @@ impl<'s> Builder<'s> {
     }
 
     /// Adds the layer of a function, by the parts of its definition.
-    #[tactic(auto, using(crate::proofs::Adding::adding_laws, crate::proofs::Sizes::size_laws))]
+    #[tactic(auto, using(std::proofs::lemmas::Grind::common_steps, crate::proofs::Adding::adding_laws, crate::proofs::Sizes::size_laws))]
     fn define(
         &mut self,
         specs: &Specs,
@@ -96,7 +96,7 @@ impl<'s> Builder<'s> {
     }
 
     /// Adds the `BLOCK` of a body, and its statements.
-    #[tactic(auto, using(crate::proofs::Adding::adding_laws, crate::proofs::Sizes::size_laws))]
+    #[tactic(auto, using(std::proofs::lemmas::Grind::common_steps, crate::proofs::Adding::adding_laws, crate::proofs::Sizes::size_laws))]
     fn body(&mut self, body: &Block) -> Result<(), AllocError>
         requires room { length self.old.nodes + (1 + children_size (expressions body.now.items)) ≤
             MAX_NODES }
@@ -119,7 +119,7 @@ impl<'s> Builder<'s> {
     }
 
     /// Adds the statements that are the children of a block.
-    #[tactic(auto, using(crate::proofs::Adding::adding_laws, crate::proofs::Sizes::size_laws))]
+    #[tactic(auto, using(std::proofs::lemmas::Grind::common_steps, crate::proofs::Adding::adding_laws, crate::proofs::Sizes::size_laws))]
     fn statements(&mut self, items: &[BlockItem], block: u32) -> Result<(), AllocError>
         requires room { length self.old.nodes + children_size (expressions items.now) ≤ MAX_NODES }
         ensures { OnOk result (Adds self.old self.new

@@ -45,7 +45,7 @@ pub fn syntax_layer(
 
 impl<'s> Builder<'s> {
     /// Adds the layer of a file where there is none yet.
-    #[tactic(auto, using(crate::proofs::Adding::adding_laws, crate::proofs::Sizes::size_laws))]
+    #[tactic(auto, using(std::proofs::lemmas::Grind::common_steps, crate::proofs::Adding::adding_laws, crate::proofs::Sizes::size_laws))]
     fn unit(&mut self, unit: &Unit) -> Result<(), AllocError>
         requires none { self.old.nodes ≡ [] }
         requires room { unit_size unit.now ≤ MAX_NODES }
@@ -77,7 +77,7 @@ impl<'s> Builder<'s> {
     }
 
     /// Adds the functions of a file, which are the children of node 1.
-    #[tactic(auto, using(crate::proofs::Adding::adding_laws, crate::proofs::Sizes::size_laws))]
+    #[tactic(auto, using(std::proofs::lemmas::Grind::common_steps, crate::proofs::Adding::adding_laws, crate::proofs::Sizes::size_laws))]
     fn functions(&mut self, items: &[Item]) -> Result<(), AllocError>
         requires room { length self.old.nodes + functions_size items.now ≤ MAX_NODES }
         ensures { OnOk result (Adds self.old self.new

@@ -1,4 +1,4 @@
-use Rattle.std.proofs.Common.{refl, ◌≡◌, Result, Ok, Err, arith}
+use Rattle.std.proofs.Common.{refl, ◌≡◌, ap, ◌∙◌, Result, Ok, Err, arith}
 use Rattle.std.specs.Result.{IfOk}
 use Rattle.std.proofs.lemmas.Result.{IfOk-weaker}
 use Rattle.cpg_schema.specs.Order.{in_order}
@@ -37,3 +37,13 @@ returns-clause-lines c =
     let nodes : layer_nodes (file_of c.args.source) layer ≡ unit_nodes (file_of c.args.source) c.args.unit.now = grind (arith, adding_laws) in
     let edges : layer_edges layer ≡ in_order (unit_edges c.args.unit.now) = grind arith in
     rw (nodes, edges, again) refl) (both c.finish.result _ _ c.finish.ensures.nodes c.finish.ensures.edges)
+
+pub returns-clause-nodes : goal.returns-clause-nodes
+returns-clause-nodes c =
+    let nodes : c.unit.new.self.nodes ≡ unit_nodes (file_of c.args.source) c.args.unit.now = grind (arith, adding_laws) in
+    IfOk-weaker c.finish.result _ _ (λ layer said. grind (arith, adding_laws, nodes)) c.finish.ensures.nodes
+
+pub returns-clause-edges : goal.returns-clause-edges
+returns-clause-edges c =
+    let edges : c.unit.new.self.edges ≡ unit_edges c.args.unit.now = grind (arith, adding_laws) in
+    IfOk-weaker c.finish.result _ _ (λ layer said. said ∙ ap in_order edges) c.finish.ensures.edges
