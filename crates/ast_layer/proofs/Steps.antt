@@ -10,7 +10,7 @@ use Rattle.ast_layer.specs.Expressions.{grouped_size, grouped_nodes, grouped_edg
 use Rattle.ast_layer.specs.Building.{operands_nodes}
 use Rattle.ast_layer.proofs.Sizes.{grouped_size-left}
 
--- What is left of a list begins with the item at the place.
+-- What is left of a list begins with the item at the position.
 pub drop_step : {X : Type 0} → (xs : List X) (i : ℕ) (d : X) → i < length xs →
     drop i xs ≡ get_or xs i d ∷ drop (i + 1) xs
 drop_step xs i d below = rw add-one (drop-cons xs i d below)

@@ -1,4 +1,4 @@
--- The definitions, in reading order: the file, the layer's nodes and edges, and what the code keeps.
+-- In reading order: the file, the layer's nodes and edges, and what the code keeps.
 pub mod Source
 pub mod Operators
 pub mod Grouping

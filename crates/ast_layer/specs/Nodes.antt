@@ -22,8 +22,8 @@ argument order = record { order = order; argument_index = Some order }
 abbrev pub type_text_limit : ℕ
 type_text_limit = 200
 
--- The METHOD `<global>` of a file, which holds what the file declares. Its line is 1, as that of its
--- BLOCK and METHOD_RETURN.
+-- The METHOD `<global>` of a file, which holds what the file declares. Its line is 1, as that of
+-- its BLOCK and METHOD_RETURN.
 abbrev pub global_method : File → PlainNode
 global_method file = record (bare_node label.Method) {
   name = Some (codes "<global>");

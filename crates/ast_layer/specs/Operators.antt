@@ -1,5 +1,5 @@
--- The names of operators in the graph: `<operator>.` and the operation, as the Code Property Graph of
--- Joern has them.
+-- The names of operators in the graph: `<operator>.` and the operation, as the Code Property Graph
+-- of Joern has them.
 use Rattle.std.specs.Prelude.{ℕ, ◌==◌, List, Option, Some, None, codes, if◌then◌else◌}
 use Rattle.c_lexer.specs.declared.token.Kind.{Kind}
 use Rattle.c_lexer.specs.declared.token.Kind.TheVariants as kind

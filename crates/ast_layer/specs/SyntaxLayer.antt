@@ -47,8 +47,8 @@ abbrev pub and_then : Option Grouped → List Grouped → List Grouped
 and_then None rest = rest
 and_then (Some grouped) rest = grouped ∷ rest
 
--- The expressions of statements. A statement without one has no node, and no rank among the children
--- of its BLOCK.
+-- The expressions of statements. A statement without one has no node, and no rank among the
+-- children of its BLOCK.
 abbrev pub expressions : List BlockItem → List Grouped
 expressions [] = []
 expressions (item ∷ items) = and_then (statement item) (expressions items)
@@ -120,7 +120,8 @@ abbrev pub functions_size : List Item → ℕ
 functions_size [] = 0
 functions_size (item ∷ items) = function_size item + functions_size items
 
--- Their nodes, the functions with ranks from `order` on among the children of the BLOCK of `<global>`.
+-- Their nodes, the functions with ranks from `order` on among the children of the BLOCK of
+-- `<global>`.
 abbrev pub functions_nodes : File → ℕ → List Item → List PlainNode
 functions_nodes file order [] = []
 functions_nodes file order (item ∷ items) =

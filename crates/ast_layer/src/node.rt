@@ -22,8 +22,8 @@ pub(crate) enum Form {
     Literal,
 }
 
-/// The rank of a node among its parent's children, from 1, and where it is an argument its rank among
-/// the arguments.
+/// The rank of a node among its parent's children, from 1, and where it is an argument its rank
+/// among the arguments.
 #[derive(Clone, Copy, Debug)]
 pub(crate) struct Rank {
     pub(crate) order: u32,

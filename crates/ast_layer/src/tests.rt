@@ -68,8 +68,8 @@ fn token(start: u32, end: u32) -> Token {
     }
 }
 
-// Of the eight tokens the second is not kept, so the name `f` has the number 1. Each token has a line
-// of its own, and `f` is in another file than the others.
+// Of the eight tokens the second is not kept, so the name `f` has the number 1. Each token has a
+// line of its own, and `f` is in another file than the others.
 #[test]
 fn a_number_counts_the_kept_tokens(rt: HostRuntime) -> Result<(), Fail> {
     let alloc = rt.alloc();
