@@ -1,3 +1,4 @@
-mod Appending
 mod Finding
-mod Taking
+pub mod Taking
+mod Known
+mod Rest

@@ -1,3 +1,4 @@
+//! Lists of the numbers of calls.
 ghost use Rattle.std.specs.Prelude.{◌↔◌, IsTrue, Contains};
 
 /// Whether the number stands in the list.

@@ -1,6 +1,8 @@
-ghost use Rattle.std.specs.Prelude.{◌≡◌, ◌<◌, ◌≤◌, ◌⊎◌, true, length, Some, IfOk, IfSome, IsErrOf, vec_len};
+//! Reading a whole file, within a limit.
+ghost use Rattle.std.specs.Prelude.{◌≡◌, ◌<◌, ◌≤◌, true, length, IfOk, IfSome, IsErrOf, vec_len};
 ghost use Rattle.joern_io.specs.Faults.{Rose};
-ghost use Rattle.joern_io.specs.Held.{file_of, Lacks, IsLargerThan};
+ghost use Rattle.joern_io.specs.Held.{Lacks};
+ghost use Rattle.joern_io.specs.Files.{KeepsFiles, RoseOrLacks, HoldsFile, HoldsLargerFile};
 ghost use Rattle.joern_io.specs.declared.reading.ReadStop.TheVariants.{Memory};
 
 use crate::files::{Failed, Files};
@@ -30,26 +32,25 @@ const PIECE: usize = 16384;
 
 /// The bytes of the whole file of this name, if they are at most `limit`.
 ///
-/// `Failed` comes only where the name is known not to be held, which is no fault, or where the files
-/// counted a fault in this call. `TooLarge` comes only where the file has more bytes than the limit.
-/// What the files hold stays, and which of them is open afterwards is not said.
+/// `Failed` comes only where the name is known not to be held, which is no fault, or where the
+/// files counted a fault in this call. `TooLarge` comes only where the file has more bytes than the
+/// limit. What the files hold stays, and which of them is open afterwards is not said.
 pub fn read_all<F: Files>(
     alloc: Global,
     files: &mut F,
     name: &str,
     limit: u32,
 ) -> Result<Vec<u8>, ReadStop>
-    ensures held { F.held files.new ≡ F.held files.old }
-    ensures never_falls { F.faults files.old ≤ F.faults files.new }
-    ensures ok { IfOk result (λ bytes.
-        IfSome (F.held files.old) (λ held. file_of held name.now ≡ Some bytes.items)) }
+    ensures keeps { KeepsFiles (F.state files.old) (F.state files.new) }
+    ensures ok { IfOk result (λ bytes. HoldsFile (F.state files.old) name.now bytes.items) }
     ensures within { IfOk result (λ bytes. vec_len bytes ≤ limit) }
     ensures failed { IsErrOf result ReadStop.Failed →
-        Rose (F.faults files.old) (F.faults files.new) ⊎ Lacks (F.held files.old) name.now }
-    ensures lacks { Lacks (F.held files.old) name.now →
-        IsErrOf result ReadStop.Failed × (F.faults files.new ≡ F.faults files.old) }
+        RoseOrLacks (F.state files.old) (F.state files.new) name.now }
     ensures too_large { IsErrOf result ReadStop.TooLarge →
-        IfSome (F.held files.old) (λ held. IsLargerThan limit (file_of held name.now)) }
+        HoldsLargerFile (F.state files.old) name.now limit }
+    ensures lacks { Lacks (F.state files.old).held name.now →
+        IsErrOf result ReadStop.Failed
+        × ((F.state files.new).faults ≡ (F.state files.old).faults) }
 {
     if files.open(name).is_err() {
         return Err(ReadStop::Failed);
@@ -59,15 +60,15 @@ pub fn read_all<F: Files>(
 
 /// The bytes that are left of the open file, if they are at most `limit`.
 fn read_rest<F: Files>(alloc: Global, files: &mut F, limit: u32) -> Result<Vec<u8>, ReadStop>
-    requires { F.is_open files.old ≡ true }
-    ensures held { F.held files.new ≡ F.held files.old }
-    ensures never_falls { F.faults files.old ≤ F.faults files.new }
-    ensures ok { IfOk result (λ bytes. IfSome (F.left files.old) (λ left. left ≡ bytes.items)) }
+    requires open { (F.state files.old).is_open ≡ true }
+    ensures keeps { KeepsFiles (F.state files.old) (F.state files.new) }
+    ensures ok { IfOk result (λ bytes.
+        IfSome (F.state files.old).left (λ left. left ≡ bytes.items)) }
     ensures within { IfOk result (λ bytes. vec_len bytes ≤ limit) }
     ensures failed { IsErrOf result ReadStop.Failed →
-        Rose (F.faults files.old) (F.faults files.new) }
+        Rose (F.state files.old).faults (F.state files.new).faults }
     ensures too_large { IsErrOf result ReadStop.TooLarge →
-        IfSome (F.left files.old) (λ left. limit < length left) }
+        IfSome (F.state files.old).left (λ left. limit < length left) }
 {
     let mut bytes = Vec::new(alloc);
     let mut piece = [0u8; PIECE];

@@ -1,4 +1,6 @@
-ghost use Rattle.std.specs.Prelude.{◌≡◌, ◌<◌, ◌≤◌, ◌⊎◌, ◌↔◌, ◌++◌, Some, Ok, [], min, take, length, Contains, IsErr, IfOk, OnOk, OnErr};
+//! A sink in memory.
+ghost use Rattle.std.specs.Prelude.{◌≡◌, ◌<◌, ◌≤◌, ◌⊎◌, ◌↔◌, ◌++◌, Some, Ok, [], min, take, length};
+ghost use Rattle.std.specs.Prelude.{Contains, IsErr, IfOk, OnOk, OnErr};
 ghost use Rattle.joern_io.specs.Faults.{next_count};
 ghost use Rattle.joern_io.specs.Tape.{room_left, KeepsTape};
 
@@ -54,7 +56,7 @@ impl Tape {
         piece: usize,
         fails: Vec<u32>,
     ) -> Result<Tape, AllocError>
-        requires { 1 ≤ piece }
+        requires some { 1 ≤ piece }
         ensures { IfOk result (λ tape. tape ≡ record {
           took = [];
           room = room;
@@ -97,9 +99,7 @@ impl Tape {
 }
 
 impl Sink for Tape {
-    ghost took = { λ tape. Some tape.took };
-
-    ghost faults = { λ tape. tape.faults };
+    ghost state = { λ tape. record { took = Some tape.took; faults = tape.faults } };
 
     /// Takes the front of the piece, without memory. It fails exactly where the piece is not empty,
     /// and the number of this write is listed or no room is left; that is a fault.
@@ -116,14 +116,14 @@ impl Sink for Tape {
         ensures count { IfOk result (λ count.
             count ≡ min self.old.piece (min (length piece.now) (room_left self.old))) }
         ensures progress { IfOk result (λ count. 0 < length piece.now → 0 < count) }
-        ensures ok_took { IfOk result (λ count.
+        ensures ok { IfOk result (λ count.
             self.new.took ≡ self.old.took ++ take count piece.now) }
-        ensures err_took { OnErr result (self.new.took ≡ self.old.took) }
+        ensures err { OnErr result (self.new.took ≡ self.old.took) }
 
         // The count of faults.
         ensures never_falls { self.old.faults ≤ self.new.faults }
         ensures ok_faults { OnOk result (self.new.faults ≡ self.old.faults) }
-        ensures err_faults { OnErr result (self.new.faults ≡ next_count self.old.faults) }
+        ensures failed_faults { OnErr result (self.new.faults ≡ next_count self.old.faults) }
     {
         if piece.is_empty() {
             return Ok(0);

@@ -1,13 +1,12 @@
 use Rattle.std.proofs.Common.{length, ◌-◌, ◌≤◌, take}
-use Rattle.joern_io.specs.Writing.{Appends}
+use Rattle.joern_io.specs.Sinks.{Takes}
 use Rattle.joern_io.proofs.writing.write_all.Given as goal
 
 -- the bytes before `at` were taken
 abbrev pub invariant-loop-at : goal.invariant-loop-at
 invariant-loop-at g l = record {
   within : l.at ≤ length l.bytes;
-  never_falls : g.S.Sink.faults l.fn.sink ≤ g.S.Sink.faults l.sink;
-  taken : Appends (g.S.Sink.took l.fn.sink) (g.S.Sink.took l.sink) (take l.at l.bytes);
+  taken : Takes (g.S.Sink.state l.fn.sink) (g.S.Sink.state l.sink) (take l.at l.bytes);
 }
 
 abbrev pub decreases-loop-at : goal.decreases-loop-at
