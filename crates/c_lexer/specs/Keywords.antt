@@ -1,42 +1,54 @@
 -- Keywords (C11 6.4.1).
 
-use Rattle.std.specs.Prelude.{ℕ, List, [], ◌∷◌, codes}
+use Rattle.std.specs.Prelude.{ℕ, List, [], ◌∷◌}
 use Rattle.std.specs.List.{Contains}
+use Rattle.c_lexer.specs.declared.keyword.TheConstants.{
+    KEY_AUTO, KEY_BREAK, KEY_CASE, KEY_CHAR, KEY_CONST, KEY_CONTINUE, KEY_DEFAULT, KEY_DO,
+    KEY_DOUBLE, KEY_ELSE, KEY_ENUM, KEY_EXTERN, KEY_FLOAT, KEY_FOR, KEY_GOTO, KEY_IF, KEY_INLINE,
+    KEY_INT, KEY_LONG, KEY_REGISTER, KEY_RESTRICT, KEY_RETURN, KEY_SHORT, KEY_SIGNED, KEY_SIZEOF,
+    KEY_STATIC, KEY_STRUCT, KEY_SWITCH, KEY_TYPEDEF, KEY_UNION, KEY_UNSIGNED, KEY_VOID,
+    KEY_VOLATILE, KEY_WHILE, KEY_ALIGNAS, KEY_ALIGNOF, KEY_ATOMIC, KEY_BOOL, KEY_COMPLEX,
+    KEY_GENERIC, KEY_IMAGINARY, KEY_NORETURN, KEY_STATIC_ASSERT, KEY_THREAD_LOCAL,
+    KEY_BUILTIN_VA_LIST, KEY_FLOAT32, KEY_FLOAT64, KEY_FLOAT128, KEY_FLOAT32X, KEY_FLOAT64X,
+    KEY_ATTRIBUTE, KEY_EXTENSION, KEY_ASM, KEY_INT128
+}
+use Rattle.c_lexer.specs.Entries.{Entry, spelling, alternative, numbers_of}
 
 -- The keywords of C11, and after `_Thread_local` ours: some that system headers use. A keyword's number
--- is its place in this list, from 0. An alternative spelling has the number of the keyword that it
--- stands for.
-unfoldable pub keywords : List (List ℕ × ℕ)
+-- is its position in this list, from 0, and an alternative spelling has the number of the keyword that
+-- it stands for (`laws::law_names`).
+unfoldable pub keywords : List Entry
 keywords =
-    (codes "auto", 0) ∷ (codes "break", 1) ∷ (codes "case", 2) ∷
-    (codes "char", 3) ∷ (codes "const", 4) ∷ (codes "continue", 5) ∷
-    (codes "default", 6) ∷ (codes "do", 7) ∷ (codes "double", 8) ∷
-    (codes "else", 9) ∷ (codes "enum", 10) ∷ (codes "extern", 11) ∷
-    (codes "float", 12) ∷ (codes "for", 13) ∷ (codes "goto", 14) ∷
-    (codes "if", 15) ∷ (codes "inline", 16) ∷ (codes "int", 17) ∷
-    (codes "long", 18) ∷ (codes "register", 19) ∷
-    (codes "restrict", 20) ∷ (codes "return", 21) ∷ (codes "short", 22) ∷
-    (codes "signed", 23) ∷ (codes "sizeof", 24) ∷ (codes "static", 25) ∷
-    (codes "struct", 26) ∷ (codes "switch", 27) ∷ (codes "typedef", 28) ∷
-    (codes "union", 29) ∷ (codes "unsigned", 30) ∷ (codes "void", 31) ∷
-    (codes "volatile", 32) ∷ (codes "while", 33) ∷
-    (codes "_Alignas", 34) ∷ (codes "_Alignof", 35) ∷
-    (codes "_Atomic", 36) ∷ (codes "_Bool", 37) ∷ (codes "_Complex", 38) ∷
-    (codes "_Generic", 39) ∷ (codes "_Imaginary", 40) ∷
-    (codes "_Noreturn", 41) ∷ (codes "_Static_assert", 42) ∷
-    (codes "_Thread_local", 43) ∷ (codes "__inline", 16) ∷
-    (codes "__inline__", 16) ∷ (codes "__restrict", 20) ∷
-    (codes "__restrict__", 20) ∷ (codes "__const", 4) ∷
-    (codes "__volatile__", 32) ∷ (codes "__signed__", 23) ∷
-    (codes "__builtin_va_list", 51) ∷ (codes "_Float32", 52) ∷
-    (codes "_Float64", 53) ∷ (codes "_Float128", 54) ∷
-    (codes "_Float32x", 55) ∷ (codes "_Float64x", 56) ∷
-    (codes "__attribute__", 57) ∷ (codes "__extension__", 58) ∷
-    (codes "__asm__", 59) ∷ (codes "__const__", 4) ∷
-    (codes "__volatile", 32) ∷ (codes "__signed", 23) ∷
-    (codes "__complex__", 38) ∷ (codes "__alignof__", 35) ∷
-    (codes "__int128", 65) ∷ []
+    spelling "auto" KEY_AUTO ∷ spelling "break" KEY_BREAK ∷ spelling "case" KEY_CASE ∷
+    spelling "char" KEY_CHAR ∷ spelling "const" KEY_CONST ∷ spelling "continue" KEY_CONTINUE ∷
+    spelling "default" KEY_DEFAULT ∷ spelling "do" KEY_DO ∷ spelling "double" KEY_DOUBLE ∷
+    spelling "else" KEY_ELSE ∷ spelling "enum" KEY_ENUM ∷ spelling "extern" KEY_EXTERN ∷
+    spelling "float" KEY_FLOAT ∷ spelling "for" KEY_FOR ∷ spelling "goto" KEY_GOTO ∷
+    spelling "if" KEY_IF ∷ spelling "inline" KEY_INLINE ∷ spelling "int" KEY_INT ∷
+    spelling "long" KEY_LONG ∷ spelling "register" KEY_REGISTER ∷
+    spelling "restrict" KEY_RESTRICT ∷ spelling "return" KEY_RETURN ∷
+    spelling "short" KEY_SHORT ∷ spelling "signed" KEY_SIGNED ∷ spelling "sizeof" KEY_SIZEOF ∷
+    spelling "static" KEY_STATIC ∷ spelling "struct" KEY_STRUCT ∷ spelling "switch" KEY_SWITCH ∷
+    spelling "typedef" KEY_TYPEDEF ∷ spelling "union" KEY_UNION ∷
+    spelling "unsigned" KEY_UNSIGNED ∷ spelling "void" KEY_VOID ∷
+    spelling "volatile" KEY_VOLATILE ∷ spelling "while" KEY_WHILE ∷
+    spelling "_Alignas" KEY_ALIGNAS ∷ spelling "_Alignof" KEY_ALIGNOF ∷
+    spelling "_Atomic" KEY_ATOMIC ∷ spelling "_Bool" KEY_BOOL ∷
+    spelling "_Complex" KEY_COMPLEX ∷ spelling "_Generic" KEY_GENERIC ∷
+    spelling "_Imaginary" KEY_IMAGINARY ∷ spelling "_Noreturn" KEY_NORETURN ∷
+    spelling "_Static_assert" KEY_STATIC_ASSERT ∷ spelling "_Thread_local" KEY_THREAD_LOCAL ∷
+    alternative "__inline" KEY_INLINE ∷ alternative "__inline__" KEY_INLINE ∷
+    alternative "__restrict" KEY_RESTRICT ∷ alternative "__restrict__" KEY_RESTRICT ∷
+    alternative "__const" KEY_CONST ∷ alternative "__volatile__" KEY_VOLATILE ∷
+    alternative "__signed__" KEY_SIGNED ∷ spelling "__builtin_va_list" KEY_BUILTIN_VA_LIST ∷
+    spelling "_Float32" KEY_FLOAT32 ∷ spelling "_Float64" KEY_FLOAT64 ∷
+    spelling "_Float128" KEY_FLOAT128 ∷ spelling "_Float32x" KEY_FLOAT32X ∷
+    spelling "_Float64x" KEY_FLOAT64X ∷ spelling "__attribute__" KEY_ATTRIBUTE ∷
+    spelling "__extension__" KEY_EXTENSION ∷ spelling "__asm__" KEY_ASM ∷
+    alternative "__const__" KEY_CONST ∷ alternative "__volatile" KEY_VOLATILE ∷
+    alternative "__signed" KEY_SIGNED ∷ alternative "__complex__" KEY_COMPLEX ∷
+    alternative "__alignof__" KEY_ALIGNOF ∷ spelling "__int128" KEY_INT128 ∷ []
 
 -- The text spells the keyword with the number.
 abbrev pub IsKeyword : List ℕ → ℕ → Type 0
-IsKeyword text number = Contains keywords (text, number)
+IsKeyword text number = Contains (numbers_of keywords) (text, number)

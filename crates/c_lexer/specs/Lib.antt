@@ -1,14 +1,15 @@
 pub mod Bytes
 pub mod Lines
+pub mod Entries
 pub mod Keywords
 pub mod Numbers
 pub mod Literals
 pub mod Comments
 pub mod Marks
-pub mod Names
 pub mod Directives
 pub mod Spelling
 pub mod Passing
 pub mod Reading
+pub mod Finds
 pub mod Scanning
 pub mod WordTable

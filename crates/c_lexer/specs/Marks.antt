@@ -1,36 +1,58 @@
 -- Punctuators (C11 6.4.6).
 
-use Rattle.std.specs.Prelude.{ℕ, List, [], ◌∷◌, codes, slice_range}
+use Rattle.std.specs.Prelude.{ℕ, List, [], ◌∷◌, slice_range}
 use Rattle.std.specs.List.{Contains}
+use Rattle.c_lexer.specs.declared.mark.TheConstants.{
+    MARK_LEFT_BRACKET, MARK_RIGHT_BRACKET, MARK_LEFT_PAREN, MARK_RIGHT_PAREN, MARK_LEFT_BRACE,
+    MARK_RIGHT_BRACE, MARK_DOT, MARK_ARROW, MARK_PLUS_PLUS, MARK_MINUS_MINUS, MARK_AMPERSAND,
+    MARK_STAR, MARK_PLUS, MARK_MINUS, MARK_TILDE, MARK_EXCLAMATION, MARK_SLASH, MARK_PERCENT,
+    MARK_LEFT_SHIFT, MARK_RIGHT_SHIFT, MARK_LESS, MARK_GREATER, MARK_LESS_EQUAL,
+    MARK_GREATER_EQUAL, MARK_EQUAL_EQUAL, MARK_NOT_EQUAL, MARK_CARET, MARK_BAR, MARK_AND_AND,
+    MARK_OR_OR, MARK_QUESTION, MARK_COLON, MARK_SEMICOLON, MARK_ELLIPSIS, MARK_EQUAL,
+    MARK_STAR_EQUAL, MARK_SLASH_EQUAL, MARK_PERCENT_EQUAL, MARK_PLUS_EQUAL, MARK_MINUS_EQUAL,
+    MARK_LEFT_SHIFT_EQUAL, MARK_RIGHT_SHIFT_EQUAL, MARK_AMPERSAND_EQUAL, MARK_CARET_EQUAL,
+    MARK_BAR_EQUAL, MARK_COMMA
+}
+use Rattle.c_lexer.specs.Entries.{Entry, spelling, alternative, numbers_of}
 use Rattle.c_lexer.specs.Bytes.{percent_sign, colon}
 use Rattle.c_lexer.specs.Comments.{IsPair, BeginsComment}
 
--- The marks of C11 (p1) but `#`, `##` and their digraphs, each with its number, which is its place in
--- this list. A digraph (p3), at the end, has the number of the mark that it stands for. Ours: `#` and
--- `##` begin no token, for the preprocessor has done with them.
-unfoldable pub marks : List (List ℕ × ℕ)
+-- The marks of C11 (p1) but `#`, `##` and their digraphs, and then the other digraphs (p3). A mark's
+-- number is its position in this list, from 0, and a digraph has the number of the mark that it stands
+-- for (`laws::law_names`). Ours: `#` and `##` begin no token, for the preprocessor has done with them.
+unfoldable pub marks : List Entry
 marks =
-    (codes "[", 0) ∷ (codes "]", 1) ∷ (codes "(", 2) ∷ (codes ")", 3) ∷ (codes "{", 4) ∷
-    (codes "}", 5) ∷ (codes ".", 6) ∷ (codes "->", 7) ∷ (codes "++", 8) ∷ (codes "--", 9) ∷
-    (codes "&", 10) ∷ (codes "*", 11) ∷ (codes "+", 12) ∷ (codes "-", 13) ∷ (codes "~", 14) ∷
-    (codes "!", 15) ∷ (codes "/", 16) ∷ (codes "%", 17) ∷ (codes "<<", 18) ∷ (codes ">>", 19) ∷
-    (codes "<", 20) ∷ (codes ">", 21) ∷ (codes "<=", 22) ∷ (codes ">=", 23) ∷ (codes "==", 24) ∷
-    (codes "!=", 25) ∷ (codes "^", 26) ∷ (codes "|", 27) ∷ (codes "&&", 28) ∷ (codes "||", 29) ∷
-    (codes "?", 30) ∷ (codes ":", 31) ∷ (codes ";", 32) ∷ (codes "...", 33) ∷ (codes "=", 34) ∷
-    (codes "*=", 35) ∷ (codes "/=", 36) ∷ (codes "%=", 37) ∷ (codes "+=", 38) ∷ (codes "-=", 39) ∷
-    (codes "<<=", 40) ∷ (codes ">>=", 41) ∷ (codes "&=", 42) ∷ (codes "^=", 43) ∷ (codes "|=", 44) ∷
-    (codes ",", 45) ∷ (codes "<:", 0) ∷ (codes ":>", 1) ∷ (codes "<%", 4) ∷ (codes "%>", 5) ∷ []
+    spelling "[" MARK_LEFT_BRACKET ∷ spelling "]" MARK_RIGHT_BRACKET ∷
+    spelling "(" MARK_LEFT_PAREN ∷ spelling ")" MARK_RIGHT_PAREN ∷
+    spelling "{" MARK_LEFT_BRACE ∷ spelling "}" MARK_RIGHT_BRACE ∷ spelling "." MARK_DOT ∷
+    spelling "->" MARK_ARROW ∷ spelling "++" MARK_PLUS_PLUS ∷ spelling "--" MARK_MINUS_MINUS ∷
+    spelling "&" MARK_AMPERSAND ∷ spelling "*" MARK_STAR ∷ spelling "+" MARK_PLUS ∷
+    spelling "-" MARK_MINUS ∷ spelling "~" MARK_TILDE ∷ spelling "!" MARK_EXCLAMATION ∷
+    spelling "/" MARK_SLASH ∷ spelling "%" MARK_PERCENT ∷ spelling "<<" MARK_LEFT_SHIFT ∷
+    spelling ">>" MARK_RIGHT_SHIFT ∷ spelling "<" MARK_LESS ∷ spelling ">" MARK_GREATER ∷
+    spelling "<=" MARK_LESS_EQUAL ∷ spelling ">=" MARK_GREATER_EQUAL ∷
+    spelling "==" MARK_EQUAL_EQUAL ∷ spelling "!=" MARK_NOT_EQUAL ∷ spelling "^" MARK_CARET ∷
+    spelling "|" MARK_BAR ∷ spelling "&&" MARK_AND_AND ∷ spelling "||" MARK_OR_OR ∷
+    spelling "?" MARK_QUESTION ∷ spelling ":" MARK_COLON ∷ spelling ";" MARK_SEMICOLON ∷
+    spelling "..." MARK_ELLIPSIS ∷ spelling "=" MARK_EQUAL ∷ spelling "*=" MARK_STAR_EQUAL ∷
+    spelling "/=" MARK_SLASH_EQUAL ∷ spelling "%=" MARK_PERCENT_EQUAL ∷
+    spelling "+=" MARK_PLUS_EQUAL ∷ spelling "-=" MARK_MINUS_EQUAL ∷
+    spelling "<<=" MARK_LEFT_SHIFT_EQUAL ∷ spelling ">>=" MARK_RIGHT_SHIFT_EQUAL ∷
+    spelling "&=" MARK_AMPERSAND_EQUAL ∷ spelling "^=" MARK_CARET_EQUAL ∷
+    spelling "|=" MARK_BAR_EQUAL ∷ spelling "," MARK_COMMA ∷
+    alternative "<:" MARK_LEFT_BRACKET ∷ alternative ":>" MARK_RIGHT_BRACKET ∷
+    alternative "<%" MARK_LEFT_BRACE ∷ alternative "%>" MARK_RIGHT_BRACE ∷ []
 
 -- The text spells the mark with the number.
 abbrev pub IsMark : List ℕ → ℕ → Type 0
-IsMark text number = Contains marks (text, number)
+IsMark text number = Contains (numbers_of marks) (text, number)
 
 -- `%:` stands there, the digraph of `#` (p3).
 abbrev pub BeginsHash : List ℕ → ℕ → Type 0
 BeginsHash bytes at = IsPair bytes at percent_sign colon
 
--- A mark stands between the places: one of the list, where neither a comment nor a `%:` begins.
+-- A mark stands between the offsets: one of the list, where neither a comment nor a `%:` begins.
 pub record IsMarkAt (bytes : List ℕ) (from to number : ℕ) : Type 0 where
   pub mark : IsMark (slice_range bytes from to) number
-  pub no_comment : BeginsComment bytes from → ⊥
-  pub no_hash : BeginsHash bytes from → ⊥
+  pub no_comment : ¬ BeginsComment bytes from
+  pub no_hash : ¬ BeginsHash bytes from

@@ -3,43 +3,43 @@
 ghost use Rattle.std.specs.Prelude.{◌↔◌, IsTrue};
 ghost use Rattle.c_lexer.specs.Bytes.{IsBlank, IsDigit, IsExponent, IsLetter, IsLineBlank, IsSign, IsWordByte};
 
-pub fn is_blank(byte: u8) -> bool
+pub(crate) fn is_blank(byte: u8) -> bool
     ensures { IsTrue result ↔ IsBlank byte }
 {
     matches!(byte, b' ' | b'\t'..=b'\r')
 }
 
-pub fn is_line_blank(byte: u8) -> bool
+pub(crate) fn is_line_blank(byte: u8) -> bool
     ensures { IsTrue result ↔ IsLineBlank byte }
 {
     matches!(byte, b' ' | b'\t' | b'\x0b'..=b'\r')
 }
 
-pub fn is_letter(byte: u8) -> bool
+pub(crate) fn is_letter(byte: u8) -> bool
     ensures { IsTrue result ↔ IsLetter byte }
 {
     matches!(byte, b'a'..=b'z' | b'A'..=b'Z' | b'_')
 }
 
-pub fn is_digit(byte: u8) -> bool
+pub(crate) fn is_digit(byte: u8) -> bool
     ensures { IsTrue result ↔ IsDigit byte }
 {
     matches!(byte, b'0'..=b'9')
 }
 
-pub fn is_word_byte(byte: u8) -> bool
+pub(crate) fn is_word_byte(byte: u8) -> bool
     ensures { IsTrue result ↔ IsWordByte byte }
 {
     is_letter(byte) || is_digit(byte)
 }
 
-pub fn is_exponent(byte: u8) -> bool
+pub(crate) fn is_exponent(byte: u8) -> bool
     ensures { IsTrue result ↔ IsExponent byte }
 {
     matches!(byte, b'e' | b'E' | b'p' | b'P')
 }
 
-pub fn is_sign(byte: u8) -> bool
+pub(crate) fn is_sign(byte: u8) -> bool
     ensures { IsTrue result ↔ IsSign byte }
 {
     matches!(byte, b'+' | b'-')

@@ -1,9 +1,10 @@
 //! Keywords (C11 6.4.1), with some that system headers use.
 //!
-//! A keyword's number is its place in the table. An alternative spelling has the number of the
-//! keyword that it stands for, and no constant.
+//! A keyword's number is its position in the list of spellings (`laws::law_names`). An alternative
+//! spelling has the number of the keyword that it stands for, and no constant.
 
-ghost use Rattle.std.specs.Prelude.{ℕ, ◌<◌, ◌^◌, length, MatchOption};
+ghost use Rattle.std.specs.Prelude.{◌<◌, ◌^◌, length};
+ghost use Rattle.c_lexer.specs.Finds.{Finds};
 ghost use Rattle.c_lexer.specs.Keywords.{IsKeyword};
 
 use crate::word_table::look_up;
@@ -186,8 +187,8 @@ static KEYWORDS: [(&[u8], u8); 66] = [
     (b"__int128", KEY_INT128),
 ];
 
-/// Where a keyword stands in the table, by the slot of `look_up`. The other slots hold 0.
-static PLACES: [u8; 256] = [
+/// The position of a keyword in the table, by the slot of `look_up`. The other slots hold 0.
+static POSITIONS: [u8; 256] = [
     16, 33, 0, 0, 0, 0, 0, 55, 0, 0, 0, 0, 0, 0, 0, 0, 7, 0, 48, 0, 0, 20, 34, 0, 0, 0, 0, 0, 0, 0,
     64, 35, 0, 0, 0, 0, 22, 0, 0, 0, 0, 0, 0, 60, 0, 0, 0, 29, 0, 0, 0, 11, 0, 0, 0, 0, 0, 0, 0, 0,
     0, 0, 0, 0, 0, 47, 0, 0, 59, 0, 0, 0, 0, 0, 0, 0, 0, 0, 0, 18, 0, 0, 17, 46, 0, 0, 0, 13, 0, 0,
@@ -203,9 +204,7 @@ static PLACES: [u8; 256] = [
 pub(crate) fn keyword_of(word: &[u8]) -> Option<u8>
     requires some { 0 < length word.now }
     requires short { length word.now < 2 ^ 32 }
-    ensures { MatchOption result
-        ((number : ℕ) → IsKeyword word.now number → ⊥)
-        (IsKeyword word.now) }
+    ensures { Finds (IsKeyword word.now) result }
 {
-    look_up(&KEYWORDS, &PLACES, word)
+    look_up(&KEYWORDS, &POSITIONS, word)
 }

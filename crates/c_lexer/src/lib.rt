@@ -15,6 +15,7 @@ pub mod mark;
 mod marker;
 mod number;
 mod pair;
+mod source_text;
 #[cfg(test)]
 mod tests;
 mod token;
@@ -22,6 +23,7 @@ mod word;
 mod word_table;
 
 pub use error::LexStop;
-pub use lexer::{MAX_FILE_BYTES, lex};
+pub use lexer::lex;
 pub use marker::{Marker, marker_of};
+pub use source_text::{MAX_FILE_BYTES, SourceText};
 pub use token::{Kind, Token};

@@ -1,14 +1,13 @@
 //! Where a line begins and ends.
 
-ghost use Rattle.std.specs.Prelude.{◌<◌, ◌≤◌, ◌↔◌, length, IsTrue};
-ghost use Rattle.c_lexer.specs.Lines.{AreLineBlanks, BeginsLine, EndsLine, OnOneLine};
+ghost use Rattle.std.specs.Prelude.{◌<◌, ◌≤◌, ◌↔◌, length, slice_index, IsTrue};
 ghost use Rattle.c_lexer.specs.Bytes.{IsLineBlank};
-ghost use Rattle.std.specs.Prelude.{slice_index};
+ghost use Rattle.c_lexer.specs.Lines.{AreLineBlanks, BeginsLine, EndsLine, OnOneLine};
 
 use crate::byte_class::is_line_blank;
 
 /// Whether only blanks stand before `at` on its line.
-pub fn begins_line(bytes: &[u8], at: usize) -> bool
+pub(crate) fn begins_line(bytes: &[u8], at: usize) -> bool
     requires { at ≤ length bytes.now }
     ensures { IsTrue result ↔ BeginsLine bytes.now at }
 {
@@ -20,7 +19,7 @@ pub fn begins_line(bytes: &[u8], at: usize) -> bool
 }
 
 /// Whether the line ends at `at`.
-pub fn ends_line(bytes: &[u8], at: usize) -> bool
+pub(crate) fn ends_line(bytes: &[u8], at: usize) -> bool
     requires { at ≤ length bytes.now }
     ensures { IsTrue result ↔ EndsLine bytes.now at }
 {
@@ -28,7 +27,7 @@ pub fn ends_line(bytes: &[u8], at: usize) -> bool
 }
 
 /// Where the line ends that `from` stands in.
-pub fn line_end(bytes: &[u8], from: usize) -> usize
+pub(crate) fn line_end(bytes: &[u8], from: usize) -> usize
     requires { from ≤ length bytes.now }
     ensures low { from ≤ result }
     ensures within { result ≤ length bytes.now }
@@ -43,12 +42,12 @@ pub fn line_end(bytes: &[u8], from: usize) -> usize
 }
 
 /// Where the run of blanks from `from` on ends, on its line.
-pub fn blanks_end(bytes: &[u8], from: usize) -> usize
+pub(crate) fn blanks_end(bytes: &[u8], from: usize) -> usize
     requires { from ≤ length bytes.now }
     ensures low { from ≤ result }
     ensures within { result ≤ length bytes.now }
     ensures blanks { AreLineBlanks bytes.now from result }
-    ensures ends { result < length bytes.now → IsLineBlank (slice_index bytes.now result) → ⊥ }
+    ensures ends { result < length bytes.now → ¬ IsLineBlank (slice_index bytes.now result) }
 {
     let mut end = from;
     while end < bytes.len() && is_line_blank(bytes[end]) {

@@ -1,32 +1,26 @@
 //! Character constants and string literals (C11 6.4.4.4, 6.4.5).
 
-ghost use Rattle.std.specs.Prelude.{ℕ, ◌≡◌, ◌+◌, ◌<◌, ◌≤◌, ◌⊎◌, ◌↔◌, length, slice_index, slice_range, IsTrue, MatchOption};
+ghost use Rattle.std.specs.Prelude.{ℕ, ◌≡◌, ◌<◌, ◌≤◌, ◌⊎◌, ◌↔◌, length, slice_index, IsTrue};
 ghost use Rattle.std.specs.List.{Contains};
 ghost use Rattle.c_lexer.specs.Bytes.{IsWordByte, double_quote, single_quote};
-ghost use Rattle.c_lexer.specs.Literals.{IsQuoted, char_prefixes, text_prefixes};
-ghost use Rattle.c_lexer.specs.Scanning.{IsOnlyLiteral, IsLiteralKind};
-ghost use Rattle.c_lexer.specs.Spelling.{Spells};
-ghost use Rattle.c_lexer.specs.declared.token.Kind.{Kind};
+ghost use Rattle.c_lexer.specs.Finds.{Finds};
+ghost use Rattle.c_lexer.specs.Literals.{char_prefixes, text_prefixes};
+ghost use Rattle.c_lexer.specs.Scanning.{ClosesQuotes, IsLiteralAt};
 
-use crate::lexer::MAX_FILE_BYTES;
-use crate::token::Kind;
+use crate::source_text::SourceText;
+use crate::token::{FoundToken, Kind};
 
 /// Where the quotes that open at `opening` are closed.
-pub fn closing_quote(bytes: &[u8], opening: usize) -> Option<usize>
-    requires inside { opening < length bytes.now }
-    requires small { length bytes.now ≤ MAX_FILE_BYTES }
-    requires quote { (slice_index bytes.now opening ≡ single_quote)
-        ⊎ (slice_index bytes.now opening ≡ double_quote) }
-    ensures { MatchOption result
-        ((closing : ℕ) → closing < length bytes.now →
-        IsQuoted bytes.now (slice_index bytes.now opening) opening closing → ⊥)
-        (λ closing. (opening < closing) × (closing < length bytes.now)
-        × IsQuoted bytes.now (slice_index bytes.now opening) opening closing) }
+pub(crate) fn closing_quote(text: SourceText<'_>, opening: usize) -> Option<usize>
+    requires inside { opening < length text.bytes.now }
+    requires quote { (slice_index text.bytes.now opening ≡ single_quote)
+        ⊎ (slice_index text.bytes.now opening ≡ double_quote) }
+    ensures { Finds (ClosesQuotes text.entry.bytes.now opening) result }
 {
-    let quote = bytes[opening];
+    let quote = text.bytes[opening];
     let mut at = opening + 1;
-    while at < bytes.len() {
-        let byte = bytes[at];
+    while at < text.bytes.len() {
+        let byte = text.bytes[at];
         if byte == quote {
             return Some(at);
         }
@@ -35,7 +29,7 @@ pub fn closing_quote(bytes: &[u8], opening: usize) -> Option<usize>
         }
         if byte == b'\\' {
             at += 1;
-            if at < bytes.len() && bytes[at] == b'\n' {
+            if at < text.bytes.len() && text.bytes[at] == b'\n' {
                 return None;
             }
         }
@@ -58,33 +52,36 @@ fn is_text_prefix(text: &[u8]) -> bool
     matches!(text, [] | [b'L' | b'u' | b'U'] | [b'u', b'8'])
 }
 
-/// The kind and the end of the literal that begins at `from`, where its quotes open at `opening`.
-pub(crate) fn literal_at(bytes: &[u8], from: usize, opening: usize) -> Option<(Kind, usize)>
+/// The literal that begins at `from`, where its quotes open at `opening`.
+pub(crate) fn literal_at(text: SourceText<'_>, from: usize, opening: usize) -> Option<FoundToken>
     requires forward { from ≤ opening }
-    requires inside { opening < length bytes.now }
-    requires small { length bytes.now ≤ MAX_FILE_BYTES }
-    requires before { (i : ℕ) → from ≤ i → i < opening → IsWordByte (slice_index bytes.now i) }
-    requires quote { (slice_index bytes.now opening ≡ single_quote)
-        ⊎ (slice_index bytes.now opening ≡ double_quote) }
-    ensures { MatchOption result
-        ((kind : Kind) (past : ℕ) → past ≤ length bytes.now → IsLiteralKind kind →
-        Spells bytes.now from past kind → ⊥)
-        (λ literal. (opening + 1 < literal.1) × IsOnlyLiteral bytes.now from literal.1 literal.0) }
+    requires inside { opening < length text.bytes.now }
+    requires before { (i : ℕ) → from ≤ i → i < opening →
+        IsWordByte (slice_index text.bytes.now i) }
+    requires quote { (slice_index text.bytes.now opening ≡ single_quote)
+        ⊎ (slice_index text.bytes.now opening ≡ double_quote) }
+    ensures { Finds (IsLiteralAt text.entry.bytes.now from) result }
 {
-    let prefix = &bytes[from..opening];
-    if bytes[opening] == b'"' {
+    let prefix = &text.bytes[from..opening];
+    if text.bytes[opening] == b'"' {
         if !is_text_prefix(prefix) {
             return None;
         }
-        let closing = closing_quote(bytes, opening)?;
-        return Some((Kind::Text, closing + 1));
+        let closing = closing_quote(text, opening)?;
+        return Some(FoundToken {
+            kind: Kind::Text,
+            end: closing + 1,
+        });
     }
     if !is_char_prefix(prefix) {
         return None;
     }
-    let closing = closing_quote(bytes, opening)?;
+    let closing = closing_quote(text, opening)?;
     if closing == opening + 1 {
         return None;
     }
-    Some((Kind::Char, closing + 1))
+    Some(FoundToken {
+        kind: Kind::Char,
+        end: closing + 1,
+    })
 }

@@ -1,13 +1,16 @@
 //! Punctuators (C11 6.4.6).
 //!
-//! A mark's number is its place in this list. A digraph has the number of what it stands for.
+//! A mark's number is its position in the list of spellings (`laws::law_names`). A digraph has the
+//! number of what it stands for.
 
-ghost use Rattle.std.specs.Prelude.{ℕ, ◌<◌, ◌≤◌, ◌^◌, ◌↔◌, length, slice_range, IsTrue, MatchOption};
-ghost use Rattle.c_lexer.specs.Marks.{BeginsHash, IsMark, IsMarkAt};
-ghost use Rattle.c_lexer.specs.Scanning.{IsSecond};
+ghost use Rattle.std.specs.Prelude.{ℕ, ◌<◌, ◌^◌, ◌↔◌, length, IsTrue};
+ghost use Rattle.c_lexer.specs.Comments.{BeginsComment};
+ghost use Rattle.c_lexer.specs.Finds.{Finds};
+ghost use Rattle.c_lexer.specs.Marks.{BeginsHash, IsMark};
+ghost use Rattle.c_lexer.specs.Scanning.{IsLongestMark, IsSecond};
 
 use crate::comment::begins_comment;
-use crate::lexer::MAX_FILE_BYTES;
+use crate::source_text::SourceText;
 use crate::pair::is_pair;
 use crate::word_table::look_up;
 
@@ -157,8 +160,8 @@ static MARKS: [(&[u8], u8); 50] = [
     (b"%>", MARK_RIGHT_BRACE),
 ];
 
-/// Where a mark stands in the table, by the slot of `look_up`. The other slots hold 0.
-static PLACES: [u8; 256] = [
+/// The position of a mark in the table, by the slot of `look_up`. The other slots hold 0.
+static POSITIONS: [u8; 256] = [
     0, 0, 0, 0, 0, 0, 42, 0, 0, 6, 0, 36, 0, 0, 0, 0, 19, 0, 0, 0, 0, 0, 0, 0, 0, 0, 0, 20, 0, 0,
     0, 0, 0, 0, 17, 7, 0, 0, 0, 0, 0, 0, 0, 45, 0, 0, 0, 0, 0, 0, 18, 0, 0, 0, 0, 33, 0, 0, 0, 49,
     0, 31, 0, 0, 0, 0, 0, 0, 0, 0, 0, 0, 0, 0, 5, 0, 0, 11, 0, 0, 0, 0, 0, 0, 0, 0, 0, 0, 0, 0, 0,
@@ -170,42 +173,51 @@ static PLACES: [u8; 256] = [
     0, 0, 29, 0, 0, 0, 0, 0, 0, 21, 0, 0, 0, 0, 0, 0,
 ];
 
-/// The number of a mark.
-fn mark_of(text: &[u8]) -> Option<u8>
-    requires some { 0 < length text.now }
-    requires short { length text.now < 2 ^ 32 }
-    ensures { MatchOption result
-        ((number : ℕ) → IsMark text.now number → ⊥)
-        (IsMark text.now) }
-{
-    look_up(&MARKS, &PLACES, text)
+/// The mark that stands at an offset: its number, and where it ends.
+#[derive(Clone, Copy)]
+pub(crate) struct FoundMark {
+    pub(crate) number: u8,
+    pub(crate) end: usize,
 }
 
-/// The number and the end of the longest mark of the table at `at`.
-fn longest_mark(bytes: &[u8], at: usize) -> Option<(u8, usize)>
-    requires inside { at < length bytes.now }
-    requires small { length bytes.now ≤ MAX_FILE_BYTES }
-    ensures { MatchOption result
-        ((number past : ℕ) → at < past → past ≤ length bytes.now →
-        IsMark (slice_range bytes.now at past) number → ⊥)
-        (λ m. (at < m.1) × (m.1 ≤ length bytes.now)
-        × IsMark (slice_range bytes.now at m.1) m.0
-        × ((number past : ℕ) → m.1 < past → past ≤ length bytes.now →
-        IsMark (slice_range bytes.now at past) number → ⊥)) }
+/// The number of a mark.
+fn mark_of(spelled: &[u8]) -> Option<u8>
+    requires some { 0 < length spelled.now }
+    requires short { length spelled.now < 2 ^ 32 }
+    ensures { Finds (IsMark spelled.now) result }
 {
-    let left = bytes.len() - at;
-    if left >= 2 && continues_mark(bytes[at + 1]) {
+    look_up(&MARKS, &POSITIONS, spelled)
+}
+
+/// The longest mark of the table at `at`.
+fn longest_mark(text: SourceText<'_>, at: usize) -> Option<FoundMark>
+    requires inside { at < length text.bytes.now }
+    requires no_comment { ¬ BeginsComment text.bytes.now at }
+    requires no_hash { ¬ BeginsHash text.bytes.now at }
+    ensures { Finds (IsLongestMark text.entry.bytes.now at) result }
+{
+    let left = text.bytes.len() - at;
+    if left >= 2 && continues_mark(text.bytes[at + 1]) {
         if left >= 3
-            && let Some(number) = mark_of(&bytes[at..at + 3])
+            && let Some(number) = mark_of(&text.bytes[at..at + 3])
         {
-            return Some((number, at + 3));
+            return Some(FoundMark {
+                number,
+                end: at + 3,
+            });
         }
-        if let Some(number) = mark_of(&bytes[at..at + 2]) {
-            return Some((number, at + 2));
+        if let Some(number) = mark_of(&text.bytes[at..at + 2]) {
+            return Some(FoundMark {
+                number,
+                end: at + 2,
+            });
         }
     }
-    match mark_of(&bytes[at..at + 1]) {
-        Some(number) => Some((number, at + 1)),
+    match mark_of(&text.bytes[at..at + 1]) {
+        Some(number) => Some(FoundMark {
+            number,
+            end: at + 1,
+        }),
         None => None,
     }
 }
@@ -220,28 +232,21 @@ fn continues_mark(byte: u8) -> bool
     )
 }
 
-/// The number and the end of the longest mark at `at`.
-pub(crate) fn mark_at(bytes: &[u8], at: usize) -> Option<(u8, usize)>
-    requires inside { at < length bytes.now }
-    requires small { length bytes.now ≤ MAX_FILE_BYTES }
-    ensures { MatchOption result
-        ((number past : ℕ) → at < past → past ≤ length bytes.now →
-        IsMarkAt bytes.now at past number → ⊥)
-        (λ m. (at < m.1) × (m.1 ≤ length bytes.now) × IsMarkAt bytes.now at m.1 m.0
-        × ((number past : ℕ) → m.1 < past → past ≤ length bytes.now →
-        IsMarkAt bytes.now at past number → ⊥)) }
+/// The longest mark at `at`.
+pub(crate) fn mark_at(text: SourceText<'_>, at: usize) -> Option<FoundMark>
+    requires inside { at < length text.bytes.now }
+    ensures { Finds (IsLongestMark text.entry.bytes.now at) result }
 {
-    if begins_comment(bytes, at) || begins_hash(bytes, at) {
+    if begins_comment(text, at) || begins_hash(text, at) {
         return None;
     }
-    longest_mark(bytes, at)
+    longest_mark(text, at)
 }
 
 /// Whether a `%:` stands at `at`.
-fn begins_hash(bytes: &[u8], at: usize) -> bool
-    requires inside { at < length bytes.now }
-    requires small { length bytes.now ≤ MAX_FILE_BYTES }
-    ensures { IsTrue result ↔ BeginsHash bytes.now at }
+fn begins_hash(text: SourceText<'_>, at: usize) -> bool
+    requires inside { at < length text.bytes.now }
+    ensures { IsTrue result ↔ BeginsHash text.entry.bytes.now at }
 {
-    is_pair(bytes, at, b'%', b':')
+    is_pair(text, at, b'%', b':')
 }

@@ -1,15 +1,16 @@
 //! Line markers: `# 7 "x.c" 2`.
 
-ghost use Rattle.std.specs.Prelude.{ℕ, ◌≡◌, ◌<◌, ◌≤◌, List, Option, length, slice_index, MatchOption};
-ghost use Rattle.c_lexer.specs.Bytes.{IsDigit, IsLineBlank, number_sign};
+ghost use Rattle.std.specs.Prelude.{◌≡◌, ◌<◌, ◌≤◌, length, slice_index};
+ghost use Rattle.c_lexer.specs.Bytes.{number_sign};
 ghost use Rattle.c_lexer.specs.Lines.{BeginsLine};
-ghost use Rattle.c_lexer.specs.Directives.{AreFlags, IsGap, IsLineMarker, IsLineNumber, IsMarkerOf};
-ghost use Rattle.c_lexer.specs.Scanning.{BeginsFlag, EndsGap, IsOnlyFile, IsMarkerRest, file_of, name_of};
+ghost use Rattle.c_lexer.specs.Directives.{AreFlags, IsLineMarker, IsMarkerOf};
+ghost use Rattle.c_lexer.specs.Finds.{Finds};
+ghost use Rattle.c_lexer.specs.Scanning.{BeginsFlag, EndsGap, IsFileAt, IsLineNumberAt, IsMarkerAt, file_of};
 
 use crate::byte_class::is_digit;
-use crate::lexer::MAX_FILE_BYTES;
 use crate::line::{blanks_end, ends_line};
 use crate::literal::closing_quote;
+use crate::source_text::SourceText;
 use crate::token::Token;
 
 /// The largest number of a line.
@@ -24,15 +25,35 @@ pub struct Marker<'b> {
     pub file: Option<&'b [u8]>,
 }
 
+/// The line marker that stands at an offset, and where it ends.
+#[derive(Clone, Copy)]
+pub(crate) struct FoundMarker<'b> {
+    pub(crate) marker: Marker<'b>,
+    pub(crate) end: usize,
+}
+
+/// The number of a line, and where its digits end.
+#[derive(Clone, Copy)]
+struct FoundLine {
+    line: u32,
+    end: usize,
+}
+
+/// The name of a file, if one stands there, and where it ends.
+#[derive(Clone, Copy)]
+struct FoundFile<'b> {
+    name: Option<&'b [u8]>,
+    end: usize,
+}
+
 /// What a line marker says, of its token.
-pub fn marker_of<'b>(bytes: &'b [u8], token: &Token) -> Marker<'b>
-    requires small { length bytes.now ≤ MAX_FILE_BYTES }
-    requires marker { IsLineMarker bytes.now token.now.start token.now.end }
-    ensures { IsMarkerOf bytes.entry.now token.now.start token.now.end result.line
+pub fn marker_of<'b>(text: SourceText<'b>, token: &Token) -> Marker<'b>
+    requires marker { IsLineMarker text.bytes.now token.now.start token.now.end }
+    ensures { IsMarkerOf text.entry.bytes.now token.now.start token.now.end result.line
         (file_of result) }
 {
-    match marker_at(bytes, token.start as usize) {
-        Some((marker, _)) => marker,
+    match marker_at(text, token.start as usize) {
+        Some(found) => found.marker,
         // Never reached: the token is a marker.
         None => Marker {
             line: 0,
@@ -41,49 +62,40 @@ pub fn marker_of<'b>(bytes: &'b [u8], token: &Token) -> Marker<'b>
     }
 }
 
-/// The line marker whose `#` stands at `at`, with its end.
-pub(crate) fn marker_at<'b>(bytes: &'b [u8], at: usize) -> Option<(Marker<'b>, usize)>
-    requires inside { at < length bytes.now }
-    requires small { length bytes.now ≤ MAX_FILE_BYTES }
-    requires begins_line { BeginsLine bytes.now at }
-    requires sign { slice_index bytes.now at ≡ number_sign }
-    ensures { MatchOption result
-        ((to line : ℕ) (file : Option (List ℕ)) → to ≤ length bytes.entry.now →
-        IsMarkerOf bytes.entry.now at to line file → ⊥)
-        (λ m. (m.1 ≤ length bytes.entry.now)
-        × IsMarkerOf bytes.entry.now at m.1 m.0.line (file_of m.0)) }
+/// The line marker whose `#` stands at `at`.
+pub(crate) fn marker_at<'b>(text: SourceText<'b>, at: usize) -> Option<FoundMarker<'b>>
+    requires inside { at < length text.bytes.now }
+    requires begins_line { BeginsLine text.bytes.now at }
+    requires sign { slice_index text.bytes.now at ≡ number_sign }
+    ensures { Finds (IsMarkerAt text.entry.bytes.now at) result }
 {
-    let number = gap_end(bytes, at + 1)?;
-    let (line, past) = line_number(bytes, number)?;
-    let (file, flags) = file_part(bytes, past)?;
-    let end = flags_end(bytes, flags);
-    if !ends_line(bytes, end) {
+    let number = gap_end(text.bytes, at + 1)?;
+    let line = line_number(text.bytes, number)?;
+    let file = file_part(text, line.end)?;
+    let end = flags_end(text.bytes, file.end);
+    if !ends_line(text.bytes, end) {
         return None;
     }
-    Some((Marker { line, file }, end))
+    let marker = Marker {
+        line: line.line,
+        file: file.name,
+    };
+    Some(FoundMarker { marker, end })
 }
 
 /// Where the gap from `from` on ends, if a blank stands there.
 fn gap_end(bytes: &[u8], from: usize) -> Option<usize>
     requires { from ≤ length bytes.now }
-    ensures { MatchOption result
-        ((to : ℕ) → to ≤ length bytes.now → IsGap bytes.now from to → ⊥)
-        (λ to. (to ≤ length bytes.now) × EndsGap bytes.now from to) }
+    ensures { Finds (EndsGap bytes.now from) result }
 {
     let end = blanks_end(bytes, from);
     if end == from { None } else { Some(end) }
 }
 
-/// The number that the digits from `from` on spell, with their end.
-fn line_number(bytes: &[u8], from: usize) -> Option<(u32, usize)>
+/// The number that the digits from `from` on spell.
+fn line_number(bytes: &[u8], from: usize) -> Option<FoundLine>
     requires inside { from ≤ length bytes.now }
-    ensures { MatchOption result
-        ((to line : ℕ) → to ≤ length bytes.now →
-        (to < length bytes.now → IsDigit (slice_index bytes.now to) → ⊥) →
-        IsLineNumber bytes.now from to line → ⊥)
-        (λ n. (n.1 ≤ length bytes.now)
-        × (n.1 < length bytes.now → IsDigit (slice_index bytes.now n.1) → ⊥)
-        × IsLineNumber bytes.now from n.1 n.0) }
+    ensures { Finds (IsLineNumberAt bytes.now from) result }
 {
     let mut line: u64 = 0;
     let mut past = from;
@@ -97,26 +109,29 @@ fn line_number(bytes: &[u8], from: usize) -> Option<(u32, usize)>
     if past == from {
         return None;
     }
-    Some((line as u32, past))
+    Some(FoundLine {
+        line: line as u32,
+        end: past,
+    })
 }
 
-/// The file that is named from `from` on, if one is, with the end of its name. None where the name
-/// does not end.
-fn file_part<'b>(bytes: &'b [u8], from: usize) -> Option<(Option<&'b [u8]>, usize)>
-    requires inside { from ≤ length bytes.now }
-    requires small { length bytes.now ≤ MAX_FILE_BYTES }
-    ensures { MatchOption result
-        ((file : Option (List ℕ)) (past to : ℕ) → to ≤ length bytes.entry.now →
-        IsMarkerRest bytes.entry.now from past to file → ⊥)
-        (λ part. (part.1 ≤ length bytes.entry.now)
-        × IsOnlyFile bytes.entry.now from part.1 (name_of part.0)) }
+/// The file that is named from `from` on, if one is. None where its name does not end.
+fn file_part<'b>(text: SourceText<'b>, from: usize) -> Option<FoundFile<'b>>
+    requires inside { from ≤ length text.bytes.now }
+    ensures { Finds (IsFileAt text.entry.bytes.now from) result }
 {
-    match gap_end(bytes, from) {
-        Some(opening) if opening < bytes.len() && bytes[opening] == b'"' => {
-            let closing = closing_quote(bytes, opening)?;
-            Some((Some(&bytes[opening + 1..closing]), closing + 1))
+    match gap_end(text.bytes, from) {
+        Some(opening) if opening < text.bytes.len() && text.bytes[opening] == b'"' => {
+            let closing = closing_quote(text, opening)?;
+            Some(FoundFile {
+                name: Some(&text.bytes[opening + 1..closing]),
+                end: closing + 1,
+            })
         }
-        _ => Some((None, from)),
+        _ => Some(FoundFile {
+            name: None,
+            end: from,
+        }),
     }
 }
 
@@ -126,7 +141,7 @@ fn flags_end(bytes: &[u8], from: usize) -> usize
     ensures low { from ≤ result }
     ensures within { result ≤ length bytes.now }
     ensures flags { AreFlags bytes.now from result }
-    ensures ends { BeginsFlag bytes.now result → ⊥ }
+    ensures ends { ¬ BeginsFlag bytes.now result }
 {
     let mut end = from;
     while let Some(digit) = gap_end(bytes, end) {

@@ -4,14 +4,14 @@ ghost use Rattle.std.specs.Prelude.{ℕ, ◌<◌, ◌≤◌, ◌↔◌, length, 
 ghost use Rattle.c_lexer.specs.Numbers.{BeginsNumber, IsNumber, IsNumberByte};
 
 use crate::byte_class::{is_digit, is_exponent, is_sign, is_word_byte};
-use crate::lexer::MAX_FILE_BYTES;
+use crate::source_text::SourceText;
 
 /// Whether a number begins at `at`.
-pub fn begins_number(bytes: &[u8], at: usize) -> bool
-    requires inside { at < length bytes.now }
-    requires small { length bytes.now ≤ MAX_FILE_BYTES }
-    ensures { IsTrue result ↔ BeginsNumber bytes.now at }
+pub(crate) fn begins_number(text: SourceText<'_>, at: usize) -> bool
+    requires inside { at < length text.bytes.now }
+    ensures { IsTrue result ↔ BeginsNumber text.entry.bytes.now at }
 {
+    let bytes = text.bytes;
     is_digit(bytes[at]) || (bytes[at] == b'.' && at + 1 < bytes.len() && is_digit(bytes[at + 1]))
 }
 
@@ -26,18 +26,17 @@ fn is_number_byte(bytes: &[u8], from: usize, at: usize) -> bool
 }
 
 /// Where the number that begins at `from` ends.
-pub fn number_end(bytes: &[u8], from: usize) -> usize
-    requires inside { from < length bytes.now }
-    requires small { length bytes.now ≤ MAX_FILE_BYTES }
-    requires begins { BeginsNumber bytes.now from }
+pub(crate) fn number_end(text: SourceText<'_>, from: usize) -> usize
+    requires inside { from < length text.bytes.now }
+    requires begins { BeginsNumber text.bytes.now from }
     ensures some { from < result }
-    ensures within { result ≤ length bytes.now }
-    ensures number { IsNumber bytes.now from result }
-    ensures longest { (past : ℕ) → result < past → past ≤ length bytes.now →
-        IsNumber bytes.now from past → ⊥ }
+    ensures within { result ≤ length text.entry.bytes.now }
+    ensures number { IsNumber text.entry.bytes.now from result }
+    ensures longest { (past : ℕ) → result < past → past ≤ length text.entry.bytes.now →
+        ¬ IsNumber text.entry.bytes.now from past }
 {
     let mut end = from + 1;
-    while end < bytes.len() && is_number_byte(bytes, from, end) {
+    while end < text.bytes.len() && is_number_byte(text.bytes, from, end) {
         end += 1;
     }
     end

@@ -1,4 +1,4 @@
-//! What a token is: its kind, its bytes and its place.
+//! What a token is: its kind, its bytes, its line and its column.
 
 /// The kind of a token.
 #[derive(Clone, Copy, Debug, PartialEq, Eq)]
@@ -36,3 +36,10 @@ pub struct Token {
 
 // A file has a token in each few bytes.
 const _: () = prove!(size_of::<Token>() <= 24);
+
+/// The token that stands at an offset: its kind, and where it ends.
+#[derive(Clone, Copy)]
+pub(crate) struct FoundToken {
+    pub(crate) kind: Kind,
+    pub(crate) end: usize,
+}
