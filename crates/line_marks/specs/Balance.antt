@@ -4,7 +4,9 @@ use Rattle.std.specs.Prelude.{ℕ, ◌≡◌, ◌⊎◌, ◌+◌, ◌≤◌, Lis
 use Rattle.c_lexer.specs.declared.token.Kind.{Kind}
 use Rattle.c_lexer.specs.declared.token.Kind.TheVariants.{Mark}
 use Rattle.c_lexer.specs.declared.token.Token.{Token}
-use Rattle.c_lexer.specs.declared.mark.TheConstants.{MARK_LEFT_BRACKET, MARK_RIGHT_BRACKET, MARK_LEFT_PAREN, MARK_RIGHT_PAREN, MARK_LEFT_BRACE, MARK_RIGHT_BRACE}
+use Rattle.c_lexer.specs.declared.mark.TheConstants.{MARK_LEFT_BRACKET, MARK_RIGHT_BRACKET}
+use Rattle.c_lexer.specs.declared.mark.TheConstants.{MARK_LEFT_PAREN, MARK_RIGHT_PAREN}
+use Rattle.c_lexer.specs.declared.mark.TheConstants.{MARK_LEFT_BRACE, MARK_RIGHT_BRACE}
 
 -- The kind of the token at the position, if one stands there.
 unfoldable pub kind_at : List Token → ℕ → Option Kind
@@ -26,7 +28,7 @@ IsBracket _ = ⊥
 -- each of an opening bracket, balanced text and its own closing bracket.
 pub data AreBalanced (tokens : List Token) : ℕ → ℕ → Type 0 where
   none : {at : ℕ} → AreBalanced tokens at at
-  plain : {at to : ℕ} (kind : Kind) → kind_at tokens at ≡ Some kind → (IsBracket kind → ⊥) →
+  plain : {at to : ℕ} (kind : Kind) → kind_at tokens at ≡ Some kind → ¬ IsBracket kind →
       AreBalanced tokens (at + 1) to → AreBalanced tokens at to
   group : {at to : ℕ} (opening closing end : ℕ) → kind_at tokens at ≡ Some (Mark opening) →
       AreBalanced tokens (at + 1) end → kind_at tokens end ≡ Some (Mark closing) →

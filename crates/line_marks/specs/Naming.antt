@@ -18,7 +18,8 @@ pub record IsBehind (bytes : List ℕ) (token : Token) (files more : List (List 
   pub said : Said
   pub marker : IsMarkerOf bytes token.start token.end said.line said.file
   pub added : AddsNames files (name_said (Some said)) more
-  pub file : MatchOption said.file (after.file ≡ before.file) (λ name. slice_get more after.file ≡ Some name)
+  pub file : MatchOption said.file (after.file ≡ before.file)
+      (λ name. slice_get more after.file ≡ Some name)
   pub from : after.from ≡ token.line + 1
   pub line : after.line ≡ said.line
   pub small : after.line ≤ max_line

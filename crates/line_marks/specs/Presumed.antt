@@ -15,7 +15,7 @@ pub record Said : Type 0 where
 
 -- What the token says: a line marker what stands in it, and any other nothing.
 abbrev pub Says : List ℕ → Token → Option Said → Type 0
-Says bytes token None = token.kind ≡ Line → ⊥
+Says bytes token None = ¬ (token.kind ≡ Line)
 Says bytes token (Some said) =
     (token.kind ≡ Line) × IsMarkerOf bytes token.start token.end said.line said.file
 
@@ -71,16 +71,17 @@ pub data AddsNames : List (List ℕ) → List (List ℕ) → List (List ℕ) →
   none : {files : List (List ℕ)} → AddsNames files [] files
   known : {files names all : List (List ℕ)} (name : List ℕ) → Contains files name →
       AddsNames files names all → AddsNames files (name ∷ names) all
-  new : {files names all : List (List ℕ)} (name : List ℕ) → (Contains files name → ⊥) →
+  new : {files names all : List (List ℕ)} (name : List ℕ) → ¬ Contains files name →
       AddsNames (files ++ name ∷ []) names all → AddsNames files (name ∷ names) all
 
--- The place stands for the presumed one: its file by the position in the list, its line by its number.
+-- The place stands for the presumed one: its file by the position in the list, its line by its
+-- number.
 pub record IsPlaceOf (files : List (List ℕ)) (place : Place) (presumed : Presumed) : Type 0 where
   pub file : slice_get files place.file ≡ Some presumed.file
   pub line : place.line ≡ presumed.line
 
--- The places of a file's tokens, one for each, and the files in the order of their first mention: that
--- with the name first, and then those that markers name.
+-- The places of a file's tokens, one for each, and the files in the order of their first mention:
+-- that with the name first, and then those that markers name.
 pub record ArePlacesOf (bytes : List ℕ) (tokens : List Token) (name : List ℕ) (places : List Place)
     (files : List (List ℕ)) : Type 0 where
   pub says : List (Option Said)

@@ -1,4 +1,4 @@
--- What the parts of the stripping find at a place.
+-- What the parts of the stripping find at a position.
 
 use Rattle.std.specs.Prelude.{ℕ, ◌≡◌, ◌+◌, ◌<◌, ◌≤◌, List, Option, Some, length, slice_index}
 use Rattle.c_lexer.specs.declared.token.Kind.{Kind}
@@ -8,10 +8,10 @@ use Rattle.line_marks.specs.declared.stripping.Treatment.TheVariants.{Drop, Keep
 use Rattle.line_marks.specs.Balance.{AreBalanced, IsBracket, IsGroup, kind_at}
 use Rattle.line_marks.specs.Kept.{IsBadAttribute, IsDropped, IsKept}
 
--- No balanced text goes on from the place.
+-- No balanced text goes on from the position.
 pub record EndsBalance (tokens : List Token) (at : ℕ) : Type 0 where
   pub bracket : (kind : Kind) → kind_at tokens at ≡ Some kind → IsBracket kind
-  pub no_group : (to : ℕ) → IsGroup tokens at to → ⊥
+  pub no_group : (to : ℕ) → ¬ IsGroup tokens at to
 
 -- The longest balanced text from `from` on ends at `to`.
 pub record IsBalancedTo (tokens : List Token) (from to : ℕ) : Type 0 where
@@ -27,6 +27,7 @@ pub record AreBalancedTo (tokens : List Token) (ends : List ℕ) : Type 0 where
 
 -- What is done with the token at the position.
 abbrev pub IsTreatment : List Token → Option Kind → ℕ → Kind → Treatment → Type 0
-IsTreatment tokens before at kind (Drop to) = (at < to) × (to ≤ length tokens) × IsDropped tokens before at to
+IsTreatment tokens before at kind (Drop to) =
+    (at < to) × (to ≤ length tokens) × IsDropped tokens before at to
 IsTreatment tokens before at kind Keep = IsKept tokens before at kind
 IsTreatment tokens before at kind Refuse = IsBadAttribute tokens at

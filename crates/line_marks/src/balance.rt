@@ -4,7 +4,9 @@
 //! at each position. A group stands where an opening bracket is followed by balanced text whose end
 //! is its own closing bracket. So a bracket that nothing closes costs no search of its own.
 
-ghost use Rattle.std.specs.Prelude.{ℕ, ◌≡◌, ◌+◌, ◌<◌, ◌≤◌, ◌^◌, ◌↔◌, length, slice_index, IfOk, IfSome, IsTrue, MatchOption};
+ghost use Rattle.std.specs.Prelude.{ℕ, ◌≡◌, ◌+◌, ◌<◌, ◌≤◌, ◌^◌, ◌↔◌, length, slice_index};
+ghost use Rattle.std.specs.Prelude.{IfOk, IfSome, IsTrue};
+ghost use Rattle.c_lexer.specs.Finds.{Finds};
 ghost use Rattle.line_marks.specs.Balance.{Closes, IsBracket, IsGroup, kind_at};
 ghost use Rattle.line_marks.specs.Stripping.{AreBalancedTo, IsBalancedTo};
 
@@ -28,9 +30,8 @@ pub(crate) fn kind_at(tokens: &[Token], at: usize) -> Option<Kind>
 
 /// The number of the mark at `at`, if a mark stands there.
 fn mark_at(tokens: &[Token], at: usize) -> Option<u8>
-    ensures { MatchOption result
-        ((number : ℕ) → kind_at tokens.now at ≡ Some (Kind.Mark number) → ⊥)
-        (λ number. (at < length tokens.now) × (kind_at tokens.now at ≡ Some (Kind.Mark number))) }
+    ensures number { Finds (λ number. kind_at tokens.now at ≡ Some (Kind.Mark number)) result }
+    ensures inside { IfSome result (λ _. at < length tokens.now) }
 {
     match kind_at(tokens, at)? {
         Kind::Mark(number) => Some(number),
@@ -62,9 +63,8 @@ fn is_bracket(kind: Kind) -> bool
 fn group_end(tokens: &[Token], at: usize, end: usize) -> Option<usize>
     requires small { length tokens.now < 2 ^ 32 }
     requires inside { IsBalancedTo tokens.now (at + 1) end }
-    ensures { MatchOption result
-        ((to : ℕ) → IsGroup tokens.now at to → ⊥)
-        (λ to. (to ≡ end + 1) × (to ≤ length tokens.now) × IsGroup tokens.now at to) }
+    ensures group { Finds (IsGroup tokens.now at) result }
+    ensures past { IfSome result (λ to. (to ≡ end + 1) × (to ≤ length tokens.now)) }
 {
     let opening = mark_at(tokens, at)?;
     let closing = mark_at(tokens, end)?;
@@ -115,9 +115,8 @@ pub(crate) fn group_from(tokens: &[Token], ends: &[u32], at: usize) -> Option<us
     requires small { length tokens.now < 2 ^ 32 }
     requires inside { at < length tokens.now }
     requires ends { AreBalancedTo tokens.now ends.now }
-    ensures { MatchOption result
-        ((to : ℕ) → IsGroup tokens.now at to → ⊥)
-        (λ to. (at < to) × (to ≤ length tokens.now) × IsGroup tokens.now at to) }
+    ensures group { Finds (IsGroup tokens.now at) result }
+    ensures past { IfSome result (λ to. (at < to) × (to ≤ length tokens.now)) }
 {
     group_end(tokens, at, ends[at + 1] as usize)
 }

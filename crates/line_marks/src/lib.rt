@@ -2,6 +2,7 @@
 #![tactic(auto)]
 
 mod balance;
+mod kept;
 pub mod laws;
 mod place;
 mod stop;
@@ -9,6 +10,7 @@ mod stripping;
 #[cfg(test)]
 mod tests;
 
+pub use kept::item_at;
 pub use place::{Place, Places, places_of};
 pub use stop::StripStop;
 pub use stripping::strip;

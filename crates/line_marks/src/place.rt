@@ -3,13 +3,14 @@
 //! A line marker says of the line after it which line of which file it is. So a node has the line
 //! that the programmer wrote, and not the one where the preprocessor put it.
 
-ghost use Rattle.std.specs.Prelude.{ℕ, ◌≡◌, ◌+◌, ◌-◌, ◌<◌, ◌≤◌, ◌^◌, ◌∷◌, [], Some, length, map, slice_get, IfOk, OnOk};
+ghost use Rattle.std.specs.Prelude.{ℕ, ◌≡◌, ◌+◌, ◌-◌, ◌<◌, ◌≤◌, ◌^◌, ◌∷◌, [], Some, length};
+ghost use Rattle.std.specs.Prelude.{map, slice_get, IfOk, OnOk};
 ghost use Rattle.c_lexer.specs.Directives.{IsLineMarker};
 ghost use Rattle.c_lexer.specs.Reading.{AreTokensOf};
 ghost use Rattle.line_marks.specs.Naming.{IsBehind, names_of};
 ghost use Rattle.line_marks.specs.Presumed.{AddsNames, ArePlacesOf};
 
-use c_lexer::{Kind, MAX_FILE_BYTES, Token, marker_of};
+use c_lexer::{Kind, SourceText, Token, marker_of};
 use indexmap::IndexSet;
 use joern_io::{Bytes, List};
 use std::alloc::{AllocError, Global};
@@ -57,7 +58,8 @@ impl Presumption {
 /// The position of a name in the list of files, where it is added at the end if it is new.
 fn file_number<'b>(names: &mut IndexSet<&'b [u8]>, name: &'b [u8]) -> Result<u32, AllocError>
     requires { length names.old.keys + 1 < 2 ^ 32 }
-    ensures stored { IfOk result (λ file. slice_get (names_of names.new) file ≡ Some name.entry.now) }
+    ensures stored { IfOk result (λ file.
+        slice_get (names_of names.new) file ≡ Some name.entry.now) }
     ensures added { OnOk result
         (AddsNames (names_of names.old) (name.entry.now ∷ []) (names_of names.new)) }
     ensures few { OnOk result (length names.new.keys ≤ length names.old.keys + 1) }
@@ -70,18 +72,17 @@ fn file_number<'b>(names: &mut IndexSet<&'b [u8]>, name: &'b [u8]) -> Result<u32
 fn behind<'b>(
     names: &mut IndexSet<&'b [u8]>,
     before: Presumption,
-    bytes: &'b [u8],
+    text: SourceText<'b>,
     token: &Token,
 ) -> Result<Presumption, AllocError>
     requires few { length names.old.keys + 1 < 2 ^ 32 }
-    requires small { length bytes.now ≤ MAX_FILE_BYTES }
-    requires line { token.now.line ≤ length bytes.now + 1 }
-    requires marker { IsLineMarker bytes.now token.now.start token.now.end }
-    ensures after { IfOk result (λ after.
-        IsBehind bytes.entry.now token.now (names_of names.old) (names_of names.new) before after) }
+    requires line { token.now.line ≤ length text.bytes.now + 1 }
+    requires marker { IsLineMarker text.bytes.now token.now.start token.now.end }
+    ensures ok { IfOk result (λ after. IsBehind text.entry.bytes.now token.now
+        (names_of names.old) (names_of names.new) before after) }
     ensures few { OnOk result (length names.new.keys ≤ length names.old.keys + 1) }
 {
-    let marker = marker_of(bytes, token);
+    let marker = marker_of(text, token);
     let file = match marker.file {
         Some(name) => file_number(names, name)?,
         None => before.file,
@@ -111,15 +112,14 @@ fn owned(alloc: Global, names: &[&[u8]]) -> Result<List<Bytes>, AllocError>
 /// again.
 pub fn places_of(
     alloc: Global,
-    bytes: &[u8],
+    text: SourceText<'_>,
     tokens: &[Token],
     name: &str,
 ) -> Result<Places, AllocError>
-    requires small { length bytes.now ≤ MAX_FILE_BYTES }
-    requires tokens { AreTokensOf bytes.now tokens.now }
+    requires tokens { AreTokensOf text.bytes.now tokens.now }
+    ensures ok { IfOk result (λ places.
+        ArePlacesOf text.entry.bytes.now tokens.now name.now places.places places.files) }
     ensures one_each { IfOk result (λ places. length places.places ≡ length tokens.now) }
-    ensures presumed { IfOk result (λ places.
-        ArePlacesOf bytes.now tokens.now name.now places.places places.files) }
 {
     let mut names: IndexSet<&[u8]> = IndexSet::new(alloc);
     let file = file_number(&mut names, name.as_bytes())?;
@@ -132,7 +132,7 @@ pub fn places_of(
     for token in tokens {
         places.push(presumption.place_of(token))?;
         if token.kind == Kind::Line {
-            presumption = behind(&mut names, presumption, bytes, token)?;
+            presumption = behind(&mut names, presumption, text, token)?;
         }
     }
     Ok(Places {

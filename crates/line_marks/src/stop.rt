@@ -10,7 +10,7 @@ pub enum StripStop {
     #[error("no balanced parentheses follow the `__attribute__` that is token {token}")]
     BadAttribute { token: u32 },
     /// There was no memory for the list.
-    #[error("out of memory")]
+    #[error("want of memory")]
     Memory,
 }
 

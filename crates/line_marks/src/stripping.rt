@@ -4,9 +4,12 @@
 //! `__attribute__((..))` and `__asm__("..")` behind a declarator. Each is dropped here, with line
 //! markers and pragmas.
 
-ghost use Rattle.std.specs.Prelude.{ℕ, ◌≡◌, ◌<◌, ◌≤◌, ◌^◌, ◌↔◌, List, length, IfOk, IsErrOf, IsOkUnless, IsTrue, MatchOption};
+ghost use Rattle.std.specs.Prelude.{ℕ, ◌≡◌, ◌<◌, ◌≤◌, ◌^◌, ◌↔◌, List, length};
+ghost use Rattle.std.specs.Prelude.{IfOk, IfSome, IsErr, IsErrOf, IsOkUnless, IsTrue};
+ghost use Rattle.c_lexer.specs.Finds.{Finds};
 ghost use Rattle.line_marks.specs.Balance.{kind_at};
-ghost use Rattle.line_marks.specs.Kept.{AreKept, AreParens, MayEndDeclarator, IsAbsent, StopsStripping};
+ghost use Rattle.line_marks.specs.Kept.{AreKept, AreParens, IsAbsent, MayEndDeclarator};
+ghost use Rattle.line_marks.specs.Kept.{StopsStripping};
 ghost use Rattle.line_marks.specs.Stripping.{AreBalancedTo, IsTreatment};
 
 use crate::balance::{balanced_ends, group_from, kind_at};
@@ -48,9 +51,8 @@ fn may_end_declarator(before: Option<Kind>) -> bool
 fn parens_end(tokens: &[Token], ends: &[u32], from: usize) -> Option<usize>
     requires small { length tokens.now < 2 ^ 32 }
     requires ends { AreBalancedTo tokens.now ends.now }
-    ensures { MatchOption result
-        ((to : ℕ) → AreParens tokens.now from to → ⊥)
-        (λ to. (from < to) × (to ≤ length tokens.now) × AreParens tokens.now from to) }
+    ensures parens { Finds (AreParens tokens.now from) result }
+    ensures past { IfSome result (λ to. (from < to) × (to ≤ length tokens.now)) }
 {
     let mut at = from;
     while let Some(kind) = kind_at(tokens, at) {
@@ -97,15 +99,17 @@ fn treatment_at(
 /// The positions of the tokens that the parser keeps, ascending.
 ///
 /// Line markers, pragmas and `__extension__` are dropped, and `__attribute__` with its parentheses.
-/// `__asm__` is dropped with its parentheses behind a word, `)` or `]`, where a declarator may end and
-/// it names the symbol; any other is kept. Tokens have one list or one bad `__attribute__` (`laws`).
+/// `__asm__` is dropped with its parentheses behind a word, `)` or `]`, where a declarator may end
+/// and it names the symbol; any other is kept. Tokens have one list or one bad `__attribute__`
+/// (`laws`).
 pub fn strip(alloc: Global, tokens: &[Token]) -> Result<Vec<u32>, StripStop>
-    requires { length tokens.now < 2 ^ 32 }
-    ensures kept { IfOk result (λ kept. AreKept tokens.now kept.items) }
+    requires small { length tokens.now < 2 ^ 32 }
+    ensures ok { IfOk result (λ kept. AreKept tokens.now kept.items) }
 
     // A refusal names the first bad `__attribute__`; want of memory alone needs none.
     ensures bad_attribute { (at : ℕ) → IsErrOf result (StripStop.BadAttribute at) →
         StopsStripping tokens.now at }
+    ensures refuses { (at : ℕ) → StopsStripping tokens.now at → IsErr result }
     ensures accepts { (kept : List ℕ) → AreKept tokens.now kept →
         IsOkUnless result StripStop.Memory }
 {
