@@ -5,3 +5,4 @@ pub mod Children
 pub mod Reordering
 pub mod Room
 pub mod Moves
+pub mod Adding

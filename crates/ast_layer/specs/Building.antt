@@ -1,5 +1,5 @@
 -- What the code keeps of a layer, and the graph that it stands for.
-use Rattle.std.specs.Prelude.{ℕ, List, [], ◌∷◌, map, Option, Some, None, codes, take}
+use Rattle.std.specs.Prelude.{ℕ, ◌≡◌, List, [], ◌∷◌, ◌++◌, map, Option, Some, None, codes, take}
 use Rattle.cpg_schema.specs.declared.label.Label.{Label}
 use Rattle.cpg_schema.specs.declared.label.Label.TheVariants as label
 use Rattle.cpg_schema.specs.Graph.{PlainNode, PlainEdge}
@@ -73,9 +73,19 @@ pub record Built : Type 0 where
   pub nodes : List PlainNode
   pub edges : List PlainEdge
 
--- a layer that is being built, of what is kept
+-- A layer that is being built, of what is kept.
 abbrev pub built : File → List Node → List Edge → Built
-built file nodes edges = record { file = file; nodes = map (plain_of file) nodes; edges = map plain_edge_of edges }
+built file nodes edges =
+    record { file = file; nodes = map (plain_of file) nodes; edges = map plain_edge_of edges }
+
+-- The layer of the same file with these nodes and edges behind those that it has.
+unfoldable pub adding : Built → List PlainNode → List PlainEdge → Built
+adding layer nodes edges =
+    record { file = layer.file; nodes = layer.nodes ++ nodes; edges = layer.edges ++ edges }
+
+-- From before to after these nodes and edges were added, and nothing else changed.
+abbrev pub Adds : (before after : Built) → List PlainNode → List PlainEdge → Type 0
+Adds before after nodes edges = after ≡ adding before nodes edges
 
 -- right operands of a chain, each of which is argument 2
 abbrev pub operands_nodes : File → List (ℕ × Prefixed) → List PlainNode

@@ -1,8 +1,6 @@
 -- The syntax layer of a file: its nodes in preorder, and the edges between them. A node's number is its place in this order.
 use Rattle.std.specs.Prelude.{ℕ, ◌+◌, List, [], ◌∷◌, ◌++◌, Option, Some, None, slice_get}
 use Rattle.cpg_schema.specs.Graph.{PlainNode, PlainEdge, PlainGraph, plain_graph}
-use Rattle.c_lexer.specs.declared.token.Token.{Token}
-use Rattle.line_marks.specs.Presumed.{Presumed}
 use Rattle.c_tree.specs.declared.tree.Unit.{Unit}
 use Rattle.c_tree.specs.declared.tree.Item.{Item}
 use Rattle.c_tree.specs.declared.tree.Item.TheVariants as item
@@ -17,7 +15,7 @@ use Rattle.c_tree.specs.declared.tree.BlockItem.TheVariants as block_item
 use Rattle.c_tree.specs.declared.tree.StmtKind.{StmtKind}
 use Rattle.c_tree.specs.declared.tree.StmtKind.TheVariants as stmt_kind
 use Rattle.c_tree.specs.declared.tree.Assign.{Assign}
-use Rattle.ast_layer.specs.Source.{File, file}
+use Rattle.ast_layer.specs.Source.{File}
 use Rattle.ast_layer.specs.Grouping.{Grouped, grouped_assign}
 use Rattle.ast_layer.specs.Nodes.{child, global_method, global_block, global_return, method_node, block_node, return_node}
 use Rattle.ast_layer.specs.Edges.{ast}
@@ -126,7 +124,6 @@ unit_nodes file unit = global_method file ∷ global_block ∷ (functions_nodes 
 abbrev pub unit_edges : Unit → List PlainEdge
 unit_edges unit = ast 0 1 ∷ (functions_edges 2 unit.items ++ ast 0 (2 + functions_size unit.items) ∷ [])
 
--- the syntax layer of the file of this name with these bytes, tokens and places, whose tree is the unit
-abbrev pub syntax_layer : List ℕ → List ℕ → List Token → List Presumed → Unit → PlainGraph
-syntax_layer name bytes tokens places unit =
-    plain_graph (unit_nodes (file name bytes tokens places) unit) (unit_edges unit)
+-- The syntax layer of a file whose tree is the unit.
+abbrev pub syntax_layer : File → Unit → PlainGraph
+syntax_layer file unit = plain_graph (unit_nodes file unit) (unit_edges unit)

@@ -1,8 +1,10 @@
-ghost use Rattle.std.specs.Prelude.{◌≡◌, ◌<◌, ◌≤◌, ◌^◌, ◌∷◌, [], ◌++◌, length, IfOk, OnOk};
+//! The builder of a layer: it adds one node or one edge at a time.
+
+ghost use Rattle.std.specs.Prelude.{◌≡◌, ◌<◌, ◌^◌, ◌∷◌, [], length, IfOk, OnOk};
 ghost use Rattle.ast_layer.specs.Source.{file_of, presumed_line_at};
 ghost use Rattle.ast_layer.specs.Nodes.{call_node, operand_node};
 ghost use Rattle.ast_layer.specs.Edges.{ast, argument_edge, call_edges};
-ghost use Rattle.ast_layer.specs.Building.{plain_of};
+ghost use Rattle.ast_layer.specs.Building.{Adds, built, plain_of};
 ghost use Rattle.ast_layer.specs.Layer.{layer_edges, layer_nodes};
 ghost use Rattle.cpg_schema.specs.Order.{in_order};
 
@@ -33,12 +35,11 @@ impl<'s> Model for Builder<'s> {
     ghost view = { λ b. built (file_of b.source) b.nodes.items b.edges.items };
 }
 
+#[tactic(auto, using(crate::proofs::Adding::adding_laws))]
 impl<'s> Builder<'s> {
     /// A layer without nodes.
     pub(crate) fn new(alloc: Global, source: Source<'s>) -> Builder<'s>
-        ensures file { result.file ≡ file_of source.entry }
-        ensures nodes { result.nodes ≡ [] }
-        ensures edges { result.edges ≡ [] }
+        ensures { result ≡ built (file_of source.entry) [] [] }
     {
         Builder {
             source,
@@ -63,21 +64,18 @@ impl<'s> Builder<'s> {
     }
 
     /// Adds a node.
+    #[tactic(auto, unfolding(crate::specs::Building::adding))]
     pub(crate) fn node(&mut self, node: Node) -> Result<(), AllocError>
-        ensures file { OnOk result (self.new.file ≡ self.old.file) }
-        ensures nodes { OnOk result
-            (self.new.nodes ≡ self.old.nodes ++ plain_of self.old.file node ∷ []) }
-        ensures edges { OnOk result (self.new.edges ≡ self.old.edges) }
+        ensures { OnOk result (Adds self.old self.new (plain_of self.old.file node ∷ []) []) }
     {
         self.nodes.push(node)?;
         Ok(())
     }
 
     /// Adds an edge from a parent to its child.
+    #[tactic(auto, unfolding(crate::specs::Building::adding))]
     pub(crate) fn child(&mut self, parent: u32, child: u32) -> Result<(), AllocError>
-        ensures file { OnOk result (self.new.file ≡ self.old.file) }
-        ensures nodes { OnOk result (self.new.nodes ≡ self.old.nodes) }
-        ensures edges { OnOk result (self.new.edges ≡ self.old.edges ++ ast parent child ∷ []) }
+        ensures { OnOk result (Adds self.old self.new [] (ast parent child ∷ [])) }
     {
         self.edges.push(Edge {
             from: parent,
@@ -88,11 +86,9 @@ impl<'s> Builder<'s> {
     }
 
     /// Adds an edge from an operator to its argument.
+    #[tactic(auto, unfolding(crate::specs::Building::adding))]
     fn argument(&mut self, call: u32, node: u32) -> Result<(), AllocError>
-        ensures file { OnOk result (self.new.file ≡ self.old.file) }
-        ensures nodes { OnOk result (self.new.nodes ≡ self.old.nodes) }
-        ensures edges { OnOk result
-            (self.new.edges ≡ self.old.edges ++ argument_edge call node ∷ []) }
+        ensures { OnOk result (Adds self.old self.new [] (argument_edge call node ∷ [])) }
     {
         self.edges.push(Edge {
             from: call,
@@ -104,10 +100,7 @@ impl<'s> Builder<'s> {
 
     /// Adds the edges from an operator to its two arguments.
     pub(crate) fn arguments(&mut self, call: u32, left: u32, right: u32) -> Result<(), AllocError>
-        ensures file { OnOk result (self.new.file ≡ self.old.file) }
-        ensures nodes { OnOk result (self.new.nodes ≡ self.old.nodes) }
-        ensures edges { OnOk result
-            (self.new.edges ≡ self.old.edges ++ call_edges call left right) }
+        ensures { OnOk result (Adds self.old self.new [] (call_edges call left right)) }
     {
         self.child(call, left)?;
         self.child(call, right)?;
@@ -122,10 +115,8 @@ impl<'s> Builder<'s> {
         first: Option<u32>,
         rank: Rank,
     ) -> Result<(), AllocError>
-        ensures file { OnOk result (self.new.file ≡ self.old.file) }
-        ensures nodes { OnOk result (self.new.nodes ≡
-            self.old.nodes ++ call_node self.old.file operator first rank ∷ []) }
-        ensures edges { OnOk result (self.new.edges ≡ self.old.edges) }
+        ensures { OnOk result (Adds self.old self.new
+            (call_node self.old.file operator first rank ∷ []) []) }
     {
         let line = self.line(first);
         self.node(Node {
@@ -138,10 +129,8 @@ impl<'s> Builder<'s> {
 
     /// Adds the node of an operand.
     pub(crate) fn operand(&mut self, operand: &Prefixed, rank: Rank) -> Result<(), AllocError>
-        ensures file { OnOk result (self.new.file ≡ self.old.file) }
-        ensures nodes { OnOk result (self.new.nodes ≡
-            self.old.nodes ++ operand_node self.old.file operand.now rank ∷ []) }
-        ensures edges { OnOk result (self.new.edges ≡ self.old.edges) }
+        ensures { OnOk result (Adds self.old self.new
+            (operand_node self.old.file operand.now rank ∷ []) []) }
     {
         let (form, token) = match &operand.base.form {
             BaseForm::Name(token) => (Form::Identifier, Some(*token)),

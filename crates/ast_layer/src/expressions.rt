@@ -1,10 +1,10 @@
 //! The layer of an expression: a `CALL` comes before its arguments.
 
-ghost use Rattle.std.specs.Prelude.{◌≡◌, ◌+◌, ◌≤◌, ◌++◌, ◌∷◌, length, IfOk, OnOk};
+ghost use Rattle.std.specs.Prelude.{◌≡◌, ◌+◌, ◌≤◌, ◌∷◌, [], length, IfOk, OnOk};
 ghost use Rattle.ast_layer.specs.Grouping.{grouped_assign, grouped_binary, operand_token};
 ghost use Rattle.ast_layer.specs.Nodes.{operand_node};
 ghost use Rattle.ast_layer.specs.Expressions.{grouped_edges, grouped_nodes, grouped_size};
-ghost use Rattle.ast_layer.specs.Building.{operands_nodes};
+ghost use Rattle.ast_layer.specs.Building.{Adds, adding, operands_nodes};
 
 use crate::builder::Builder;
 use crate::node::Rank;
@@ -22,16 +22,15 @@ fn token_of(operand: &Prefixed) -> Option<u32>
     }
 }
 
+#[tactic(auto, using(std::proofs::lemmas::Grind::common_steps, crate::proofs::Adding::adding_laws))]
 impl<'s> Builder<'s> {
     /// Adds the layer of an assignment expression.
     pub(crate) fn assign(&mut self, assign: &Assign, rank: Rank) -> Result<(), AllocError>
         requires room { length self.old.nodes + grouped_size (grouped_assign assign.now) ≤
             MAX_NODES }
-        ensures file { OnOk result (self.new.file ≡ self.old.file) }
-        ensures nodes { OnOk result (self.new.nodes ≡
-            self.old.nodes ++ grouped_nodes self.old.file rank (grouped_assign assign.now)) }
-        ensures edges { OnOk result (self.new.edges ≡ self.old.edges ++
-            grouped_edges (length self.old.nodes) (grouped_assign assign.now)) }
+        ensures { OnOk result (Adds self.old self.new
+            (grouped_nodes self.old.file rank (grouped_assign assign.now))
+            (grouped_edges (length self.old.nodes) (grouped_assign assign.now))) }
     {
         let rank = self.targets(assign, rank)?;
         self.binary(&assign.value.last, rank)
@@ -42,14 +41,14 @@ impl<'s> Builder<'s> {
     fn targets(&mut self, assign: &Assign, rank: Rank) -> Result<Rank, AllocError>
         requires room { length self.old.nodes + grouped_size (grouped_assign assign.now) ≤
             MAX_NODES }
-        ensures file { OnOk result (self.new.file ≡ self.old.file) }
-        ensures nodes { IfOk result (λ after. self.new.nodes ++
-            grouped_nodes self.old.file after (grouped_binary assign.now.value.last) ≡
-            self.old.nodes ++ grouped_nodes self.old.file rank (grouped_assign assign.now)) }
-        ensures edges { OnOk result (self.new.edges ++
-            grouped_edges (length self.new.nodes) (grouped_binary assign.now.value.last) ≡
-            self.old.edges ++ grouped_edges (length self.old.nodes) (grouped_assign assign.now)) }
-        ensures left { OnOk result (length self.new.nodes +
+        ensures whole { IfOk result (λ after.
+            adding self.new
+            (grouped_nodes self.new.file after (grouped_binary assign.now.value.last))
+            (grouped_edges (length self.new.nodes) (grouped_binary assign.now.value.last)) ≡
+            adding self.old
+            (grouped_nodes self.old.file rank (grouped_assign assign.now))
+            (grouped_edges (length self.old.nodes) (grouped_assign assign.now))) }
+        ensures room { OnOk result (length self.new.nodes +
             grouped_size (grouped_binary assign.now.value.last) ≤ MAX_NODES) }
     {
         let targets = assign.targets.items();
@@ -68,11 +67,9 @@ impl<'s> Builder<'s> {
     fn binary(&mut self, binary: &Binary, rank: Rank) -> Result<(), AllocError>
         requires room { length self.old.nodes + grouped_size (grouped_binary binary.now) ≤
             MAX_NODES }
-        ensures file { OnOk result (self.new.file ≡ self.old.file) }
-        ensures nodes { OnOk result (self.new.nodes ≡
-            self.old.nodes ++ grouped_nodes self.old.file rank (grouped_binary binary.now)) }
-        ensures edges { OnOk result (self.new.edges ≡ self.old.edges ++
-            grouped_edges (length self.old.nodes) (grouped_binary binary.now)) }
+        ensures { OnOk result (Adds self.old self.new
+            (grouped_nodes self.old.file rank (grouped_binary binary.now))
+            (grouped_edges (length self.old.nodes) (grouped_binary binary.now))) }
     {
         let rank = self.operators(binary, rank)?;
         self.operand(&binary.first, rank)?;
@@ -83,13 +80,13 @@ impl<'s> Builder<'s> {
     fn operators(&mut self, binary: &Binary, rank: Rank) -> Result<Rank, AllocError>
         requires room { length self.old.nodes + grouped_size (grouped_binary binary.now) ≤
             MAX_NODES }
-        ensures file { OnOk result (self.new.file ≡ self.old.file) }
-        ensures nodes { IfOk result (λ after. self.new.nodes ++
-            operand_node self.old.file binary.now.first after ∷
-            operands_nodes self.old.file binary.now.rest ≡
-            self.old.nodes ++ grouped_nodes self.old.file rank (grouped_binary binary.now)) }
-        ensures edges { OnOk result (self.new.edges ≡ self.old.edges ++
-            grouped_edges (length self.old.nodes) (grouped_binary binary.now)) }
+        ensures { IfOk result (λ after.
+            adding self.new
+            (operand_node self.new.file binary.now.first after ∷
+            operands_nodes self.new.file binary.now.rest) [] ≡
+            adding self.old
+            (grouped_nodes self.old.file rank (grouped_binary binary.now))
+            (grouped_edges (length self.old.nodes) (grouped_binary binary.now))) }
     {
         let first = token_of(&binary.first);
         let rest = binary.rest.items();
@@ -107,10 +104,7 @@ impl<'s> Builder<'s> {
 
     /// Adds the right operands of a chain.
     fn operands(&mut self, rest: &[(u32, Prefixed)]) -> Result<(), AllocError>
-        ensures file { OnOk result (self.new.file ≡ self.old.file) }
-        ensures nodes { OnOk result
-            (self.new.nodes ≡ self.old.nodes ++ operands_nodes self.old.file rest.now) }
-        ensures edges { OnOk result (self.new.edges ≡ self.old.edges) }
+        ensures { OnOk result (Adds self.old self.new (operands_nodes self.old.file rest.now) []) }
     {
         for next in rest {
             self.operand(&next.1, Rank::argument(2))?;

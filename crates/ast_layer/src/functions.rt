@@ -1,7 +1,8 @@
 //! The layer of a function: its `METHOD`, the `BLOCK` of its body and its `METHOD_RETURN`.
 
-ghost use Rattle.std.specs.Prelude.{◌≡◌, ◌+◌, ◌≤◌, ◌∷◌, ◌++◌, length, slice_get, OnOk};
+ghost use Rattle.std.specs.Prelude.{◌≡◌, ◌+◌, ◌≤◌, ◌∷◌, length, slice_get, OnOk};
 ghost use Rattle.ast_layer.specs.Nodes.{block_node};
+ghost use Rattle.ast_layer.specs.Building.{Adds};
 ghost use Rattle.ast_layer.specs.SyntaxLayer.{children_edges, children_nodes, children_size, expressions, function_edges, function_nodes, function_size, item_parts, name_token, type_token};
 
 use crate::builder::Builder;
@@ -44,11 +45,9 @@ impl<'s> Builder<'s> {
     /// Adds the layer of a function, which is a child of node 1.
     pub(crate) fn function(&mut self, item: &Item, order: u32) -> Result<(), AllocError>
         requires room { length self.old.nodes + function_size item.now ≤ MAX_NODES }
-        ensures file { OnOk result (self.new.file ≡ self.old.file) }
-        ensures nodes { OnOk result (self.new.nodes ≡
-            self.old.nodes ++ function_nodes self.old.file order item.now) }
-        ensures edges { OnOk result (self.new.edges ≡
-            self.old.edges ++ function_edges (length self.old.nodes) item.now) }
+        ensures { OnOk result (Adds self.old self.new
+            (function_nodes self.old.file order item.now)
+            (function_edges (length self.old.nodes) item.now)) }
     {
         match item {
             Item::Define {
@@ -60,7 +59,7 @@ impl<'s> Builder<'s> {
     }
 
     /// Adds the layer of a function, by the parts of its definition.
-    #[tactic(auto, using(crate::proofs::Sizes::size_laws))]
+    #[tactic(auto, using(std::proofs::lemmas::Grind::common_steps, crate::proofs::Adding::adding_laws, crate::proofs::Sizes::size_laws))]
     fn define(
         &mut self,
         specs: &Specs,
@@ -70,12 +69,10 @@ impl<'s> Builder<'s> {
     ) -> Result<(), AllocError>
         requires room { length self.old.nodes +
             function_size (Item.Define specs.now declarator.now body.now) ≤ MAX_NODES }
-        ensures file { OnOk result (self.new.file ≡ self.old.file) }
-        ensures nodes { OnOk result (self.new.nodes ≡ self.old.nodes ++
-            function_nodes self.old.file order (Item.Define specs.now declarator.now body.now)) }
-        ensures edges { OnOk result (self.new.edges ≡ self.old.edges ++
-            function_edges (length self.old.nodes)
-            (Item.Define specs.now declarator.now body.now)) }
+        ensures { OnOk result (Adds self.old self.new
+            (function_nodes self.old.file order (Item.Define specs.now declarator.now body.now))
+            (function_edges (length self.old.nodes)
+            (Item.Define specs.now declarator.now body.now))) }
     {
         let name = name_of(declarator);
         let line = self.line(name);
@@ -99,17 +96,15 @@ impl<'s> Builder<'s> {
     }
 
     /// Adds the `BLOCK` of a body, and its statements.
-    #[tactic(auto, using(crate::proofs::Sizes::size_laws))]
+    #[tactic(auto, using(std::proofs::lemmas::Grind::common_steps, crate::proofs::Adding::adding_laws, crate::proofs::Sizes::size_laws))]
     fn body(&mut self, body: &Block) -> Result<(), AllocError>
         requires room { length self.old.nodes + (1 + children_size (expressions body.now.items)) ≤
             MAX_NODES }
-        ensures file { OnOk result (self.new.file ≡ self.old.file) }
-        ensures nodes { OnOk result (self.new.nodes ≡ self.old.nodes ++
-            block_node self.old.file (slice_get body.now.marks 0) ∷
-            children_nodes self.old.file 1 (expressions body.now.items)) }
-        ensures edges { OnOk result (self.new.edges ≡ self.old.edges ++
-            children_edges (length self.old.nodes) (length self.old.nodes + 1)
-            (expressions body.now.items)) }
+        ensures { OnOk result (Adds self.old self.new
+            (block_node self.old.file (slice_get body.now.marks 0) ∷
+            children_nodes self.old.file 1 (expressions body.now.items))
+            (children_edges (length self.old.nodes) (length self.old.nodes + 1)
+            (expressions body.now.items))) }
     {
         let brace = body.marks.items().first().copied();
         let line = self.line(brace);
@@ -124,14 +119,12 @@ impl<'s> Builder<'s> {
     }
 
     /// Adds the statements that are the children of a block.
-    #[tactic(auto, using(crate::proofs::Sizes::size_laws))]
+    #[tactic(auto, using(std::proofs::lemmas::Grind::common_steps, crate::proofs::Adding::adding_laws, crate::proofs::Sizes::size_laws))]
     fn statements(&mut self, items: &[BlockItem], block: u32) -> Result<(), AllocError>
         requires room { length self.old.nodes + children_size (expressions items.now) ≤ MAX_NODES }
-        ensures file { OnOk result (self.new.file ≡ self.old.file) }
-        ensures nodes { OnOk result (self.new.nodes ≡
-            self.old.nodes ++ children_nodes self.old.file 1 (expressions items.now)) }
-        ensures edges { OnOk result (self.new.edges ≡ self.old.edges ++
-            children_edges block (length self.old.nodes) (expressions items.now)) }
+        ensures { OnOk result (Adds self.old self.new
+            (children_nodes self.old.file 1 (expressions items.now))
+            (children_edges block (length self.old.nodes) (expressions items.now))) }
     {
         let mut order = 0;
         for item in items {

@@ -1,32 +1,45 @@
-ghost use Rattle.std.specs.Prelude.{◌≡◌, [], slice_get, slice_range};
-ghost use Rattle.std.specs.Option.{option_map, unwrap_or};
-ghost use Rattle.ast_layer.specs.Source.{file_of, presumed_file_at, presumed_line_at, place_of, presumed_of, spelling_at, token_of};
+//! A source file as the walk and the view read it: tokens by their numbers, and places.
 
-use c_lexer::Token;
+ghost use Rattle.std.specs.Prelude.{◌≡◌, [], length, slice_get, slice_range};
+ghost use Rattle.std.specs.Option.{unwrap_or};
+ghost use Rattle.std.proofs.Props.{props};
+ghost use Rattle.line_marks.specs.Kept.{ArePositionsIn};
+
+use c_lexer::{SourceText, Token};
 use joern_io::Bytes;
-use line_marks::Place;
+use line_marks::{Place, item_at};
 
-/// A source file: its name, its bytes, the tokens of its tree, and the presumed place of each token.
+/// A source file: its name, its text, its tokens, those among them that are kept for the parser,
+/// and the presumed place of each token.
+///
+/// A token's number is its position among the kept ones.
 #[derive(Clone, Copy, Debug)]
 pub struct Source<'s> {
     /// The name of the file itself.
     pub name: &'s [u8],
-    pub bytes: &'s [u8],
-    /// Those tokens whose positions the tree names.
+    pub text: SourceText<'s>,
+    /// All tokens of the text.
     pub tokens: &'s [Token],
-    /// The presumed place of each token, at the token's position.
+    /// The positions of the kept tokens among all, in their order.
+    pub kept: &'s [u32],
+    /// The presumed place of each token, at the token's position among all.
     pub places: &'s [Place],
     /// The names of the files in which the places are.
     pub files: &'s [Bytes],
+    pub ghost inside: { ArePositionsIn tokens.now kept.now } by { Prim.hlevel props },
+    pub ghost one_each: { length places.now ≡ length tokens.now },
 }
 
 impl<'s> Source<'s> {
+    ghost use Rattle.std.specs.Option.{option_map};
+    ghost use Rattle.ast_layer.specs.Source.{file_of, presumed_file_at, presumed_line_at, place_of, presumed_of, spelling_at, token_of};
+
     /// The token of this number, if there is one.
     pub(crate) fn token(&self, number: Option<u32>) -> Option<Token>
         ensures { result ≡ token_of (file_of self.now) number }
     {
         match number {
-            Some(number) => self.tokens.get(number as usize).copied(),
+            Some(number) => item_at(self.tokens, self.kept, number as usize),
             None => None,
         }
     }
@@ -37,7 +50,7 @@ impl<'s> Source<'s> {
             place_of (file_of self.now) number }
     {
         match number {
-            Some(number) => self.places.get(number as usize).copied(),
+            Some(number) => item_at(self.places, self.kept, number as usize),
             None => None,
         }
     }
@@ -67,7 +80,7 @@ impl<'s> Source<'s> {
         ensures { result.now ≡ spelling_at (file_of self.now) number }
     {
         match self.token(number) {
-            Some(token) => between(self.bytes, token.start as usize, token.end as usize),
+            Some(token) => between(self.text.bytes, token.start as usize, token.end as usize),
             None => &[],
         }
     }
@@ -83,7 +96,7 @@ fn name_at(files: &[Bytes], file: u32) -> &[u8]
     }
 }
 
-/// The bytes between two places, as far as there are any.
+/// The bytes between two offsets, as far as there are any.
 fn between(bytes: &[u8], start: usize, end: usize) -> &[u8]
     ensures { result.now ≡ slice_range bytes.now start end }
 {

@@ -1,11 +1,12 @@
 //! The walk over a tree, which makes its layer.
 
-ghost use Rattle.std.specs.Prelude.{◌≡◌, ◌+◌, ◌≤◌, [], ◌++◌, length, IfOk, OnOk};
+ghost use Rattle.std.specs.Prelude.{◌≡◌, ◌+◌, ◌≤◌, [], length, IfOk, OnOk};
 ghost use Rattle.cpg_schema.specs.Graph.{plain_graph};
 ghost use Rattle.cpg_schema.specs.Lines.{graph_lines};
 ghost use Rattle.cpg_schema.specs.Order.{in_order};
-ghost use Rattle.ast_layer.specs.Source.{file_of, source_places};
+ghost use Rattle.ast_layer.specs.Source.{file_of};
 ghost use Rattle.ast_layer.specs.SyntaxLayer.{functions_edges, functions_nodes, functions_size, syntax_layer as graph_of, unit_edges, unit_nodes, unit_size};
+ghost use Rattle.ast_layer.specs.Building.{Adds};
 ghost use Rattle.ast_layer.specs.Layer.{layer_edges, layer_nodes};
 
 use crate::builder::Builder;
@@ -29,16 +30,13 @@ pub fn syntax_layer(
 ) -> Result<SyntaxLayer, AllocError>
     requires room { unit_size unit.now ≤ MAX_NODES }
     ensures nodes { IfOk result (λ layer. layer_nodes (file_of source.entry) layer ≡
-        (graph_of source.entry.name.now source.entry.bytes.now source.entry.tokens.now
-        (source_places source.entry) unit.now).nodes) }
+        (graph_of (file_of source.entry) unit.now).nodes) }
     ensures edges { IfOk result (λ layer. layer_edges layer ≡
-        in_order (graph_of source.entry.name.now source.entry.bytes.now source.entry.tokens.now
-        (source_places source.entry) unit.now).edges) }
+        in_order (graph_of (file_of source.entry) unit.now).edges) }
     ensures in_order { IfOk result (λ layer. in_order (layer_edges layer) ≡ layer_edges layer) }
     ensures lines { IfOk result (λ layer.
         graph_lines (plain_graph (layer_nodes (file_of source.entry) layer) (layer_edges layer)) ≡
-        graph_lines (graph_of source.entry.name.now source.entry.bytes.now
-        source.entry.tokens.now (source_places source.entry) unit.now)) }
+        graph_lines (graph_of (file_of source.entry) unit.now)) }
 {
     let mut builder = Builder::new(alloc, source);
     builder.unit(unit)?;
@@ -47,13 +45,12 @@ pub fn syntax_layer(
 
 impl<'s> Builder<'s> {
     /// Adds the layer of a file where there is none yet.
-    #[tactic(auto, using(crate::proofs::Sizes::size_laws))]
+    #[tactic(auto, using(std::proofs::lemmas::Grind::common_steps, crate::proofs::Adding::adding_laws, crate::proofs::Sizes::size_laws))]
     fn unit(&mut self, unit: &Unit) -> Result<(), AllocError>
         requires none { self.old.nodes ≡ [] }
         requires room { unit_size unit.now ≤ MAX_NODES }
-        ensures file { OnOk result (self.new.file ≡ self.old.file) }
-        ensures nodes { OnOk result (self.new.nodes ≡ unit_nodes self.old.file unit.now) }
-        ensures edges { OnOk result (self.new.edges ≡ self.old.edges ++ unit_edges unit.now) }
+        ensures { OnOk result
+            (Adds self.old self.new (unit_nodes self.old.file unit.now) (unit_edges unit.now)) }
     {
         self.node(Node {
             form: Form::GlobalMethod,
@@ -80,14 +77,12 @@ impl<'s> Builder<'s> {
     }
 
     /// Adds the functions of a file, which are the children of node 1.
-    #[tactic(auto, using(crate::proofs::Sizes::size_laws))]
+    #[tactic(auto, using(std::proofs::lemmas::Grind::common_steps, crate::proofs::Adding::adding_laws, crate::proofs::Sizes::size_laws))]
     fn functions(&mut self, items: &[Item]) -> Result<(), AllocError>
         requires room { length self.old.nodes + functions_size items.now ≤ MAX_NODES }
-        ensures file { OnOk result (self.new.file ≡ self.old.file) }
-        ensures nodes { OnOk result (self.new.nodes ≡
-            self.old.nodes ++ functions_nodes self.old.file 1 items.now) }
-        ensures edges { OnOk result (self.new.edges ≡
-            self.old.edges ++ functions_edges (length self.old.nodes) items.now) }
+        ensures { OnOk result (Adds self.old self.new
+            (functions_nodes self.old.file 1 items.now)
+            (functions_edges (length self.old.nodes) items.now)) }
     {
         let mut order = 0;
         for item in items {
