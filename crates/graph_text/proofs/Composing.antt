@@ -1,58 +1,57 @@
--- Two texts that are printed one after the other.
-use Rattle.std.proofs.Common.{◌≡◌, ℕ, ◌≤◌, ◌⊎◌, inl, inr, Bool, true, false, List, [], ◌++◌, Option, Result, Ok, Err, OnErr, refl, sym, ◌∙◌, ap, subst, append_assoc, arith}
+-- Two texts that are printed one after the other, and the end of printing.
+use Rattle.std.proofs.Common.{◌≡◌, ℕ, ◌⊎◌, inl, inr, Bool, true, false, List, [], ◌++◌, Result, Ok, Err, IsErr, OnOk, OnErr, refl, sym, ◌∙◌, ap, subst, append_assoc}
 use Rattle.std.proofs.lemmas.Bool.{true≢false}
 use Rattle.std.proofs.lemmas.List.{append-nil}
 use Rattle.joern_io.specs.declared.files.Failed.{Failed}
-use Rattle.joern_io.specs.Writing.{AppendsProperPrefix}
-use Rattle.graph_text.specs.Printing.{Output, Keeps, Fails, Prints}
-use Rattle.graph_text.proofs.Prefixes.{Appends-none, Appends-then, AppendsProperPrefix-longer, AppendsProperPrefix-then}
+use Rattle.joern_io.specs.Sinks.{SinkState, Takes, TakesPrefix}
+use Rattle.joern_io.proofs.Taking.{Takes-none, Takes-then, TakesPrefix-longer, TakesPrefix-then}
+use Rattle.graph_text.specs.Printing.{Output, sink_of, printer_of, Keeps, Prints}
 
 is_true_or_false : (b : Bool) → (b ≡ true) ⊎ (b ≡ false)
 is_true_or_false true = inl refl
 is_true_or_false false = inr refl
 
 -- what is kept of two texts
-Keeps-then : (o p q : Output) (a b : List ℕ) → Keeps o p a → Keeps p q b → Keeps o q (a ++ b)
-Keeps-then o p q a b first second = record {
+Keeps-then : {o p q : Output} {a b : List ℕ} → Keeps o p a → Keeps p q b → Keeps o q (a ++ b)
+Keeps-then {o} {p} {q} {a} {b} first second = record {
   gone = first.gone ++ second.gone;
-  taken = Appends-then _ _ _ first.gone second.gone first.taken second.taken;
+  taken = Takes-then first.taken second.taken;
   kept =
-      append_assoc first.gone second.gone q.waiting.bytes
+      append_assoc first.gone second.gone (printer_of q).bytes
       ∙ ap (λ rest. first.gone ++ rest) second.kept
-      ∙ sym (append_assoc first.gone p.waiting.bytes b)
+      ∙ sym (append_assoc first.gone (printer_of p).bytes b)
       ∙ ap (λ front. front ++ b) first.kept
-      ∙ append_assoc o.waiting.bytes a b;
+      ∙ append_assoc (printer_of o).bytes a b;
 }
 
 -- a fault in the second text
-Fails-second : (o p q : Output) (a b : List ℕ) → o.faults ≤ p.faults → Keeps o p a → Fails p q b → Fails o q (a ++ b)
-Fails-second o p q a b falls first second = record {
-  rose = omega (arith, second.rose);
-  taken =
-      let P : List ℕ → Type 0 = λ text. AppendsProperPrefix o.took q.took text in
-      subst P
-      (sym (append_assoc first.gone p.waiting.bytes b) ∙ ap (λ front. front ++ b) first.kept ∙ append_assoc o.waiting.bytes a b)
-      (AppendsProperPrefix-then o.took p.took q.took first.gone (p.waiting.bytes ++ b) first.taken second.taken);
-}
+fault-second : (o p q : Output) (a b : List ℕ) → Keeps o p a →
+    TakesPrefix (sink_of p) (sink_of q) ((printer_of p).bytes ++ b) →
+    TakesPrefix (sink_of o) (sink_of q) ((printer_of o).bytes ++ (a ++ b))
+fault-second o p q a b first second =
+    let P : List ℕ → Type 0 = λ text. TakesPrefix (sink_of o) (sink_of q) text in
+    subst P
+    (sym (append_assoc first.gone (printer_of p).bytes b) ∙ ap (λ front. front ++ b) first.kept
+    ∙ append_assoc (printer_of o).bytes a b)
+    (TakesPrefix-then first.taken second)
 
 -- a fault in the first text
-Fails-first : (o p q : Output) (a b : List ℕ) → p.faults ≤ q.faults → q.took ≡ p.took → Fails o p a → Fails o q (a ++ b)
-Fails-first o p q a b falls same first = record {
-  rose = omega (arith, first.rose);
-  taken = rw (same, ← append_assoc o.waiting.bytes a b) (AppendsProperPrefix-longer o.took p.took (o.waiting.bytes ++ a) b first.taken);
-}
+fault-first : (o p q : Output) (a b : List ℕ) →
+    TakesPrefix (sink_of o) (sink_of p) ((printer_of o).bytes ++ a) → sink_of q ≡ sink_of p →
+    TakesPrefix (sink_of o) (sink_of q) ((printer_of o).bytes ++ (a ++ b))
+fault-first o p q a b first same =
+    rw (same, ← append_assoc (printer_of o).bytes a b) (TakesPrefix-longer b first)
 
 pub Prints-then : {o p q : Output} {a b : List ℕ} → Prints o p a → Prints p q b → Prints o q (a ++ b)
 Prints-then {o} {p} {q} {a} {b} first second = record {
-  never_falls = omega (arith, first.never_falls, second.never_falls);
   no_fault = λ ends.
       let later = second.no_fault ends in
       let sooner = first.no_fault later.0 in
-      (sooner.0, Keeps-then o p q a b sooner.1 later.1);
+      (sooner.0, Keeps-then sooner.1 later.1);
   fault = λ ends begins.
-      elim (is_true_or_false p.waiting.failed) [
-        | inl failed ↦ Fails-first o p q a b second.never_falls (second.after_fault failed).1 (first.fault failed begins)
-        | inr well ↦ Fails-second o p q a b first.never_falls (first.no_fault well).1 (second.fault ends well)
+      elim (is_true_or_false (printer_of p).failed) [
+        | inl failed ↦ fault-first o p q a b (first.fault failed begins) (second.after_fault failed).1
+        | inr well ↦ fault-second o p q a b (first.no_fault well).1 (second.fault ends well)
       ];
   after_fault = λ begins.
       let sooner = first.after_fault begins in
@@ -63,34 +62,55 @@ Prints-then {o} {p} {q} {a} {b} first second = record {
 -- nothing was printed
 pub Prints-none : (o : Output) → Prints o o []
 Prints-none o = record {
-  never_falls = omega arith;
-  no_fault = λ ends. (ends, record { gone = []; taken = Appends-none o.took; kept = sym (append-nil o.waiting.bytes) });
+  no_fault = λ ends. (ends, record {
+    gone = [];
+    taken = Takes-none (sink_of o);
+    kept = sym (append-nil (printer_of o).bytes);
+  });
   fault = λ ends begins. absurd (true≢false (sym ends ∙ begins));
   after_fault = λ begins. (begins, refl);
 }
 
--- A fault while a text was printed through a printer in which nothing waited, or when it was finished: a proper prefix of
--- the text was taken.
-AppendsProperPrefix-finished : (o p : Output) (now : Option (List ℕ)) (text : List ℕ) →
-    o.waiting.bytes ≡ [] → o.waiting.failed ≡ false → Prints o p text →
-    (p.waiting.failed ≡ false → AppendsProperPrefix p.took now p.waiting.bytes) → (p.waiting.failed ≡ true → now ≡ p.took) →
-    AppendsProperPrefix o.took now text
-AppendsProperPrefix-finished o p now text nothing begins printed unfinished same =
-    elim (is_true_or_false p.waiting.failed) [
-      | inl failed ↦ rw (same failed) (rw nothing at (printed.fault failed begins).taken)
+-- A text was printed through a printer in which nothing waited, and then what still waited was taken: so the text was.
+Takes-finished : (o p : Output) (end : SinkState) (text : List ℕ) →
+    (printer_of o).bytes ≡ [] → Prints o p text → (printer_of p).failed ≡ false →
+    Takes (sink_of p) end (printer_of p).bytes → Takes (sink_of o) end text
+Takes-finished o p end text nothing printed well last =
+    let kept = (printed.no_fault well).1 in
+    let P : List ℕ → Type 0 = λ text. Takes (sink_of o) end text in
+    subst P (kept.kept ∙ ap (λ front. front ++ text) nothing) (Takes-then kept.taken last)
+
+-- A fault while a text was printed through such a printer, or at its end: a proper prefix of the text was taken.
+TakesPrefix-finished : (o p : Output) (end : SinkState) (text : List ℕ) →
+    (printer_of o).bytes ≡ [] → (printer_of o).failed ≡ false → Prints o p text →
+    ((printer_of p).failed ≡ false → TakesPrefix (sink_of p) end (printer_of p).bytes) →
+    ((printer_of p).failed ≡ true → end ≡ sink_of p) → TakesPrefix (sink_of o) end text
+TakesPrefix-finished o p end text nothing begins printed unfinished same =
+    elim (is_true_or_false (printer_of p).failed) [
+      | inl failed ↦ rw (same failed) (rw nothing at (printed.fault failed begins))
       | inr well ↦
           let kept = (printed.no_fault well).1 in
-          let P : List ℕ → Type 0 = λ text. AppendsProperPrefix o.took now text in
+          let P : List ℕ → Type 0 = λ text. TakesPrefix (sink_of o) end text in
           subst P (kept.kept ∙ ap (λ front. front ++ text) nothing)
-          (AppendsProperPrefix-then o.took p.took now kept.gone p.waiting.bytes kept.taken (unfinished well))
+          (TakesPrefix-then kept.taken (unfinished well))
     ]
 
--- the same of the answer of `finish`
-pub on_err-finished : (result : Result (Unit {0}) Failed) (o p : Output) (now : Option (List ℕ)) (text : List ℕ) →
-    o.waiting.bytes ≡ [] → o.waiting.failed ≡ false → Prints o p text →
-    OnErr result (p.waiting.failed ≡ false → AppendsProperPrefix p.took now p.waiting.bytes) →
-    OnErr result (p.waiting.failed ≡ true → now ≡ p.took) →
-    OnErr result (AppendsProperPrefix o.took now text)
-on_err-finished (Ok _) o p now text nothing begins printed unfinished same = tt
-on_err-finished (Err _) o p now text nothing begins printed unfinished same =
-    AppendsProperPrefix-finished o p now text nothing begins printed unfinished same
+-- the same of the answers of `finish`
+pub on_ok-finished : (result : Result (Unit {0}) Failed) (o p : Output) (end : SinkState) (text : List ℕ) →
+    (printer_of o).bytes ≡ [] → Prints o p text →
+    ((printer_of p).failed ≡ true → IsErr result × (end ≡ sink_of p)) →
+    OnOk result (Takes (sink_of p) end (printer_of p).bytes) → OnOk result (Takes (sink_of o) end text)
+on_ok-finished (Ok _) o p end text nothing printed after last =
+    elim (is_true_or_false (printer_of p).failed) [
+      | inl failed ↦ absurd (true≢false (sym ((after failed).0)))
+      | inr well ↦ Takes-finished o p end text nothing printed well last
+    ]
+on_ok-finished (Err _) o p end text nothing printed after last = tt
+
+pub on_err-finished : (result : Result (Unit {0}) Failed) (o p : Output) (end : SinkState) (text : List ℕ) →
+    (printer_of o).bytes ≡ [] → (printer_of o).failed ≡ false → Prints o p text →
+    OnErr result ((printer_of p).failed ≡ false → TakesPrefix (sink_of p) end (printer_of p).bytes) →
+    ((printer_of p).failed ≡ true → IsErr result × (end ≡ sink_of p)) → OnErr result (TakesPrefix (sink_of o) end text)
+on_err-finished (Ok _) o p end text nothing begins printed unfinished after = tt
+on_err-finished (Err _) o p end text nothing begins printed unfinished after =
+    TakesPrefix-finished o p end text nothing begins printed unfinished (λ failed. (after failed).1)

@@ -1,4 +1,3 @@
-pub mod Prefixes
-pub mod Composing
-pub mod Escaping
-pub mod LineByLine
+mod Composing
+mod Escaping
+mod LineByLine

@@ -1,37 +1,38 @@
--- What a printer and its sink do with a text: bytes wait in a fixed buffer, and go to the sink when it is full.
-use Rattle.std.specs.Prelude.{ℕ, ◌≡◌, ◌≤◌, Bool, true, false, List, ◌++◌, Option}
-use Rattle.joern_io.specs.Faults.{Rose}
-use Rattle.joern_io.specs.Writing.{Appends, AppendsProperPrefix}
+-- What a printer does with a text: bytes wait in a fixed buffer, and go to the sink when it is full.
+use Rattle.std.specs.Prelude.{ℕ, ◌≡◌, Bool, true, false, List, ◌++◌}
+use Rattle.joern_io.specs.Sinks.{SinkState, Takes, TakesPrefix}
 
--- a printer, as its callers see it: the bytes that wait, and whether the sink has answered with a fault
+-- A printer, as its callers see it.
 pub record Waiting : Type 0 where
+  -- The bytes that wait, which go to the sink next.
   pub bytes : List ℕ
+  -- Whether the sink has answered with a fault.
   pub failed : Bool
 
--- what the sink took and its count of faults, and the printer
-pub record Output : Type 0 where
-  pub took : Option (List ℕ)
-  pub faults : ℕ
-  pub waiting : Waiting
+-- A sink, and the printer before it.
+abbrev pub Output : Type 0
+Output = SinkState × Waiting
 
--- what was taken and what waits grew by the text: some of the bytes went to the sink, and the others wait
-pub record Keeps (before now : Output) (text : List ℕ) : Type 0 where
+-- The sink.
+abbrev pub sink_of : Output → SinkState
+sink_of output = output.0
+
+-- The printer.
+abbrev pub printer_of : Output → Waiting
+printer_of output = output.1
+
+-- Of the bytes that waited and the text, in this order, some went to the sink and the others wait.
+pub record Keeps (old new : Output) (text : List ℕ) : Type 0 where
   pub gone : List ℕ
-  pub taken : Appends before.took now.took gone
-  pub kept : gone ++ now.waiting.bytes ≡ before.waiting.bytes ++ text
+  pub taken : Takes (sink_of old) (sink_of new) gone
+  pub kept : gone ++ (printer_of new).bytes ≡ (printer_of old).bytes ++ text
 
--- the sink counted a fault, and took a proper prefix of what waited and the text
-pub record Fails (before now : Output) (text : List ℕ) : Type 0 where
-  pub rose : Rose before.faults now.faults
-  pub taken : AppendsProperPrefix before.took now.took (before.waiting.bytes ++ text)
-
--- A text was printed. A printer that has failed stays so, and nothing more is taken.
-pub record Prints (before now : Output) (text : List ℕ) : Type 0 where
-  pub never_falls : before.faults ≤ now.faults
-  pub no_fault : now.waiting.failed ≡ false → (before.waiting.failed ≡ false) × Keeps before now text
-  pub fault : now.waiting.failed ≡ true → before.waiting.failed ≡ false → Fails before now text
-  pub after_fault : before.waiting.failed ≡ true → (now.waiting.failed ≡ true) × (now.took ≡ before.took)
-
--- an output, of its parts
-abbrev pub output : Option (List ℕ) → ℕ → Waiting → Output
-output took faults waiting = record { took = took; faults = faults; waiting = waiting }
+-- A text was printed, or the sink failed once it had taken a proper prefix of the bytes that waited
+-- and the text. A printer that has failed stays so, and the sink stays as it is.
+pub record Prints (old new : Output) (text : List ℕ) : Type 0 where
+  pub no_fault : (printer_of new).failed ≡ false →
+      ((printer_of old).failed ≡ false) × Keeps old new text
+  pub fault : (printer_of new).failed ≡ true → (printer_of old).failed ≡ false →
+      TakesPrefix (sink_of old) (sink_of new) ((printer_of old).bytes ++ text)
+  pub after_fault : (printer_of old).failed ≡ true →
+      ((printer_of new).failed ≡ true) × (sink_of new ≡ sink_of old)

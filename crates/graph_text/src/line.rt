@@ -1,7 +1,7 @@
-ghost use Rattle.std.specs.Prelude.{◌≤◌, flat_map, OnOk, OnErr};
-ghost use Rattle.joern_io.specs.Faults.{Rose};
-ghost use Rattle.joern_io.specs.Writing.{Appends, AppendsProperPrefix};
-ghost use Rattle.graph_text.specs.Printing.{output, Prints};
+//! One line of parts, as of a refusal.
+ghost use Rattle.std.specs.Prelude.{flat_map, OnOk, OnErr};
+ghost use Rattle.joern_io.specs.Sinks.{Takes, TakesPrefix};
+ghost use Rattle.graph_text.specs.Printing.{Prints};
 ghost use Rattle.graph_text.specs.LineParts.{part_text, line_text};
 
 use crate::printer::Printer;
@@ -23,11 +23,10 @@ pub enum LinePart<'a> {
 /// `Failed` comes only where the sink counted a fault in this call. Then it took a proper prefix of
 /// the line.
 pub fn print_line<S: Sink>(parts: &[LinePart<'_>], sink: &mut S) -> Result<(), Failed>
-    ensures never_falls { S.faults sink.old ≤ S.faults sink.new }
-    ensures ok { OnOk result (Appends (S.took sink.old) (S.took sink.new) (line_text parts.now)) }
-    ensures err { OnErr result (Rose (S.faults sink.old) (S.faults sink.new)) }
-    ensures err_prefix { OnErr result (AppendsProperPrefix
-        (S.took sink.old) (S.took sink.new) (line_text parts.now)) }
+    ensures ok { OnOk result
+        (Takes (S.state sink.old) (S.state sink.new) (line_text parts.now)) }
+    ensures failed { OnErr result
+        (TakesPrefix (S.state sink.old) (S.state sink.new) (line_text parts.now)) }
 {
     let mut printer = Printer::new();
     printer.parts(sink, parts);
@@ -36,18 +35,20 @@ pub fn print_line<S: Sink>(parts: &[LinePart<'_>], sink: &mut S) -> Result<(), F
 }
 
 impl Printer {
+    /// Prints the parts, one after the other.
     fn parts<S: Sink>(&mut self, sink: &mut S, parts: &[LinePart<'_>])
-        ensures { Prints (output (S.took sink.old) (S.faults sink.old) self.old)
-            (output (S.took sink.new) (S.faults sink.new) self.new) (flat_map part_text parts.now) }
+        ensures { Prints (S.state sink.old, self.old) (S.state sink.new, self.new)
+            (flat_map part_text parts.now) }
     {
         for part in parts {
             self.part(sink, part);
         }
     }
 
+    /// Prints a part as its kind says.
     fn part<S: Sink>(&mut self, sink: &mut S, part: &LinePart<'_>)
-        ensures { Prints (output (S.took sink.old) (S.faults sink.old) self.old)
-            (output (S.took sink.new) (S.faults sink.new) self.new) (part_text part.now) }
+        ensures { Prints (S.state sink.old, self.old) (S.state sink.new, self.new)
+            (part_text part.now) }
     {
         match part {
             LinePart::Verbatim(text) => self.verbatim(sink, text),

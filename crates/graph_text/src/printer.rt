@@ -1,7 +1,7 @@
-ghost use Rattle.std.specs.Prelude.{◌≡◌, ◌+◌, ◌≤◌, ◌++◌, [], true, false, length, take, OnOk, OnErr};
-ghost use Rattle.joern_io.specs.Faults.{Rose};
-ghost use Rattle.joern_io.specs.Writing.{Appends, AppendsProperPrefix};
-ghost use Rattle.graph_text.specs.Printing.{output, Prints};
+//! A fixed buffer before a sink.
+ghost use Rattle.std.specs.Prelude.{◌≡◌, ◌+◌, ◌≤◌, ◌++◌, [], true, false, length, IsErr, OnOk, OnErr};
+ghost use Rattle.joern_io.specs.Sinks.{Takes, TakesPrefix};
+ghost use Rattle.graph_text.specs.Printing.{Prints};
 
 use joern_io::{Failed, Sink, write_all};
 use std::marker::Model;
@@ -10,7 +10,7 @@ use std::marker::Model;
 const ROOM: usize = 65536;
 
 /// A fixed buffer before a sink. Callers see the bytes that wait in it, and whether the sink has
-/// answered with a fault: from then on nothing more is written, and `finish` says so.
+/// answered with a fault: from then on the sink stays as it is, and `finish` says so.
 #[derive(Drop)]
 pub(crate) struct Printer {
     buffer: [u8; ROOM],
@@ -45,8 +45,7 @@ impl Printer {
 
     /// Prints a text as it is.
     pub(crate) fn text<S: Sink>(&mut self, sink: &mut S, text: &[u8])
-        ensures { Prints (output (S.took sink.old) (S.faults sink.old) self.old)
-            (output (S.took sink.new) (S.faults sink.new) self.new) text.now }
+        ensures { Prints (S.state sink.old, self.old) (S.state sink.new, self.new) text.now }
     {
         if text.len() <= self.room() {
             self.keep(text);
@@ -81,8 +80,7 @@ impl Printer {
     /// Writes a text past the buffer, in which nothing waits.
     fn pass<S: Sink>(&mut self, sink: &mut S, text: &[u8])
         requires { self.old.bytes ≡ [] }
-        ensures { Prints (output (S.took sink.old) (S.faults sink.old) self.old)
-            (output (S.took sink.new) (S.faults sink.new) self.new) text.now }
+        ensures { Prints (S.state sink.old, self.old) (S.state sink.new, self.new) text.now }
     {
         if !self.failed {
             self.failed = write_all(sink, text).is_err();
@@ -91,8 +89,7 @@ impl Printer {
 
     /// Writes what waits.
     fn flush<S: Sink>(&mut self, sink: &mut S)
-        ensures printed { Prints (output (S.took sink.old) (S.faults sink.old) self.old)
-            (output (S.took sink.new) (S.faults sink.new) self.new) [] }
+        ensures printed { Prints (S.state sink.old, self.old) (S.state sink.new, self.new) [] }
         ensures nothing { self.new.bytes ≡ [] }
     {
         if !self.failed {
@@ -101,17 +98,13 @@ impl Printer {
         self.waiting = 0;
     }
 
-    /// Ends the printing, and says whether all was written.
+    /// Ends the printing: writes what waits, and says whether all was written.
     pub(crate) fn finish<S: Sink>(self, sink: &mut S) -> Result<(), Failed>
-        ensures never_falls { S.faults sink.old ≤ S.faults sink.new }
-        ensures ok { OnOk result (self.failed ≡ false) }
-        ensures ok_took { OnOk result (Appends (S.took sink.old) (S.took sink.new) self.bytes) }
-        ensures err { OnErr result (self.failed ≡ false →
-            Rose (S.faults sink.old) (S.faults sink.new)) }
-        ensures err_took { OnErr result (self.failed ≡ false →
-            AppendsProperPrefix (S.took sink.old) (S.took sink.new) self.bytes) }
-        ensures after_fault { OnErr result (self.failed ≡ true →
-            S.took sink.new ≡ S.took sink.old) }
+        ensures ok { OnOk result (Takes (S.state sink.old) (S.state sink.new) self.bytes) }
+        ensures failed { OnErr result (self.failed ≡ false →
+            TakesPrefix (S.state sink.old) (S.state sink.new) self.bytes) }
+        ensures after_fault { self.failed ≡ true →
+            IsErr result × (S.state sink.new ≡ S.state sink.old) }
     {
         let mut printer = self;
         printer.flush(sink);

@@ -1,7 +1,8 @@
+//! The properties of a node.
 ghost use Rattle.std.specs.Prelude.{◌≡◌};
 ghost use Rattle.std.specs.Option.{option_copied};
 ghost use Rattle.cpg_schema.specs.Lines.{key_text, text_property, number_property, properties_text};
-ghost use Rattle.graph_text.specs.Printing.{output, Prints};
+ghost use Rattle.graph_text.specs.Printing.{Prints};
 ghost use Rattle.graph_text.specs.Views.{plain_node};
 
 use crate::printer::Printer;
@@ -12,8 +13,7 @@ use joern_io::Sink;
 impl Printer {
     /// Prints the properties of a node, in the order of the keys.
     pub(crate) fn properties<S: Sink>(&mut self, sink: &mut S, node: &NodeView<'_>)
-        ensures { Prints (output (S.took sink.old) (S.faults sink.old) self.old)
-            (output (S.took sink.new) (S.faults sink.new) self.new)
+        ensures { Prints (S.state sink.old, self.old) (S.state sink.new, self.new)
             (properties_text (plain_node node.now)) }
     {
         self.text_property(sink, Key::Name, node.name);
@@ -27,9 +27,9 @@ impl Printer {
         self.text_property(sink, Key::Linkage, node.linkage);
     }
 
+    /// Prints a property whose value is a text, if it is there.
     fn text_property<S: Sink>(&mut self, sink: &mut S, key: Key, value: Option<&[u8]>)
-        ensures { Prints (output (S.took sink.old) (S.faults sink.old) self.old)
-            (output (S.took sink.new) (S.faults sink.new) self.new)
+        ensures { Prints (S.state sink.old, self.old) (S.state sink.new, self.new)
             (text_property key (option_copied value.entry)) }
     {
         if let Some(bytes) = value {
@@ -38,9 +38,10 @@ impl Printer {
         }
     }
 
+    /// Prints a property whose value is a number, if it is there.
     fn number_property<S: Sink>(&mut self, sink: &mut S, key: Key, value: Option<u32>)
-        ensures { Prints (output (S.took sink.old) (S.faults sink.old) self.old)
-            (output (S.took sink.new) (S.faults sink.new) self.new) (number_property key value) }
+        ensures { Prints (S.state sink.old, self.old) (S.state sink.new, self.new)
+            (number_property key value) }
     {
         if let Some(n) = value {
             self.key(sink, key);
@@ -50,8 +51,7 @@ impl Printer {
 
     /// Prints ` KEY=`.
     fn key<S: Sink>(&mut self, sink: &mut S, key: Key)
-        ensures { Prints (output (S.took sink.old) (S.faults sink.old) self.old)
-            (output (S.took sink.new) (S.faults sink.new) self.new) (key_text key) }
+        ensures { Prints (S.state sink.old, self.old) (S.state sink.new, self.new) (key_text key) }
     {
         self.verbatim(sink, text_of(key));
     }

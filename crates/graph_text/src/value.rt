@@ -1,6 +1,7 @@
+//! Values, verbatim texts and numbers.
 ghost use Rattle.std.specs.Prelude.{◌≡◌, ◌<◌, ◌≤◌, false, length, slice_index, take, decimal};
 ghost use Rattle.cpg_schema.specs.Values.{escape, escaped, hex_digit, is_plain};
-ghost use Rattle.graph_text.specs.Printing.{output, Prints};
+ghost use Rattle.graph_text.specs.Printing.{Prints};
 
 use crate::printer::Printer;
 use itoa::Buffer;
@@ -38,8 +39,8 @@ fn plain_len(bytes: &[u8]) -> usize
 impl Printer {
     /// Prints a value: each byte that is not plain as `%` and two hexadecimal digits.
     pub(crate) fn value<S: Sink>(&mut self, sink: &mut S, bytes: &[u8])
-        ensures { Prints (output (S.took sink.old) (S.faults sink.old) self.old)
-            (output (S.took sink.new) (S.faults sink.new) self.new) (escaped bytes.now) }
+        ensures { Prints (S.state sink.old, self.old) (S.state sink.new, self.new)
+            (escaped bytes.now) }
     {
         let mut at = 0;
         while at < bytes.len() {
@@ -54,8 +55,7 @@ impl Printer {
         requires { 0 < length bytes.now }
         ensures progress { 0 < result }
         ensures within { result ≤ length bytes.now }
-        ensures printed { Prints (output (S.took sink.old) (S.faults sink.old) self.old)
-            (output (S.took sink.new) (S.faults sink.new) self.new)
+        ensures printed { Prints (S.state sink.old, self.old) (S.state sink.new, self.new)
             (escaped (take result bytes.now)) }
     {
         let plain = plain_len(bytes);
@@ -70,24 +70,21 @@ impl Printer {
     /// Prints a byte that is not plain.
     fn escape<S: Sink>(&mut self, sink: &mut S, byte: u8)
         requires { is_plain byte ≡ false }
-        ensures { Prints (output (S.took sink.old) (S.faults sink.old) self.old)
-            (output (S.took sink.new) (S.faults sink.new) self.new) (escape byte) }
+        ensures { Prints (S.state sink.old, self.old) (S.state sink.new, self.new) (escape byte) }
     {
         self.text(sink, &[b'%', hex(byte / 16), hex(byte % 16)]);
     }
 
     /// Prints a text as it is.
     pub(crate) fn verbatim<S: Sink>(&mut self, sink: &mut S, text: &str)
-        ensures { Prints (output (S.took sink.old) (S.faults sink.old) self.old)
-            (output (S.took sink.new) (S.faults sink.new) self.new) text.now }
+        ensures { Prints (S.state sink.old, self.old) (S.state sink.new, self.new) text.now }
     {
         self.text(sink, text.as_bytes());
     }
 
     /// Prints a number in decimal digits.
     pub(crate) fn number<S: Sink>(&mut self, sink: &mut S, n: u32)
-        ensures { Prints (output (S.took sink.old) (S.faults sink.old) self.old)
-            (output (S.took sink.new) (S.faults sink.new) self.new) (decimal n) }
+        ensures { Prints (S.state sink.old, self.old) (S.state sink.new, self.new) (decimal n) }
     {
         let mut digits = Buffer::new();
         self.verbatim(sink, digits.format(n));

@@ -1,3 +1,4 @@
+//! What is printed: a graph, its nodes and its edges.
 ghost use Rattle.std.specs.Prelude.{◌≡◌, ◌<◌, List, length, slice_get, Some};
 ghost use Rattle.cpg_schema.specs.Graph.{PlainNode, PlainEdge, bare_node};
 ghost use Rattle.graph_text.specs.Views.{plain_node, plain_edge};
@@ -60,15 +61,15 @@ pub trait GraphView {
 
     /// The node of this number.
     fn node(&self, id: u32) -> NodeView<'_>
-        requires { id < length (nodes self.now) }
+        requires inside { id < length (nodes self.now) }
         ensures { slice_get (nodes self.now) id ≡ Some (plain_node result) };
 
     /// How many edges the graph has.
     fn edge_count(&self) -> u32
         ensures { result ≡ length (edges self.now) };
 
-    /// The edge at this place.
-    fn edge(&self, place: u32) -> EdgeView<'_>
-        requires { place < length (edges self.now) }
-        ensures { slice_get (edges self.now) place ≡ Some (plain_edge result) };
+    /// The edge at this position.
+    fn edge(&self, position: u32) -> EdgeView<'_>
+        requires inside { position < length (edges self.now) }
+        ensures { slice_get (edges self.now) position ≡ Some (plain_edge result) };
 }

@@ -1,5 +1,6 @@
 -- What contracts see of files that are read one at a time, and what a call does to them.
-use Rattle.std.specs.Prelude.{ℕ, ◌≡◌, ◌≢◌, ◌≤◌, ◌⊎◌, Bool, true, List, [], length, take, drop, Option, Some, None, IfSome}
+use Rattle.std.specs.Prelude.{ℕ, ◌≡◌, ◌≢◌, ◌≤◌, ◌⊎◌, Bool, true, List, [], length, take, drop}
+use Rattle.std.specs.Prelude.{Option, Some, None, IfSome}
 use Rattle.joern_io.specs.Faults.{Rose}
 use Rattle.joern_io.specs.Held.{Held, file_of, Lacks, IsLargerThan}
 
@@ -38,7 +39,8 @@ pub record Opens (old new : FilesState) (name : List ℕ) : Type 0 where
 
 -- The next count bytes stand at the front of the piece, and the others are left. A count of 0 for a
 -- piece that is not empty is the end of the file.
-pub record ReadsFront (old : List ℕ) (new : Option (List ℕ)) (count : ℕ) (piece : List ℕ) : Type 0 where
+pub record ReadsFront (old : List ℕ) (new : Option (List ℕ)) (count : ℕ) (piece : List ℕ)
+    : Type 0 where
   pub within : count ≤ length old
   pub front : take count piece ≡ take count old
   pub rest : new ≡ Some (drop count old)
@@ -59,4 +61,5 @@ HoldsFile files name bytes = IfSome files.held (λ held. file_of held name ≡ S
 
 -- More bytes than the limit are held under the name, where it is told what is held.
 abbrev pub HoldsLargerFile : FilesState → List ℕ → ℕ → Type 0
-HoldsLargerFile files name limit = IfSome files.held (λ held. IsLargerThan limit (file_of held name))
+HoldsLargerFile files name limit =
+    IfSome files.held (λ held. IsLargerThan limit (file_of held name))

@@ -1,3 +1,4 @@
+-- What contracts of this crate say, in the order of reading.
 pub mod Faults
 pub mod Sinks
 pub mod Held

@@ -32,9 +32,9 @@ const PIECE: usize = 16384;
 
 /// The bytes of the whole file of this name, if they are at most `limit`.
 ///
-/// `Failed` comes only where the name is known not to be held, which is no fault, or where the files
-/// counted a fault in this call. `TooLarge` comes only where the file has more bytes than the limit.
-/// What the files hold stays, and which of them is open afterwards is not said.
+/// `Failed` comes only where the name is known not to be held, which is no fault, or where the
+/// files counted a fault in this call. `TooLarge` comes only where the file has more bytes than the
+/// limit. What the files hold stays, and which of them is open afterwards is not said.
 pub fn read_all<F: Files>(
     alloc: Global,
     files: &mut F,

@@ -1,19 +1,22 @@
 //! Files in memory.
-ghost use Rattle.std.specs.Prelude.{◌≡◌, ◌≢◌, ◌≤◌, ◌⊎◌, ◌↔◌, [], Some, None, true, min, take, length, is_some, Contains, IsTrue, IsSome, IsErr, IfOk, IfSome, IfNone, OnOk, OnErr};
+ghost use Rattle.std.specs.Prelude.{◌≡◌, ◌≢◌, ◌≤◌, ◌⊎◌, ◌↔◌, [], Some, None, true, min, take};
+ghost use Rattle.std.specs.Prelude.{is_some, Contains, IsTrue, IsSome, IsErr, IfOk, IfSome, IfNone};
+ghost use Rattle.std.specs.Prelude.{length, OnOk, OnErr};
 ghost use Rattle.joern_io.specs.Faults.{next_count};
 ghost use Rattle.joern_io.specs.Held.{file_of};
 ghost use Rattle.joern_io.specs.Files.{ReadsLeft};
-ghost use Rattle.joern_io.specs.Shelf.{NamesDiffer, KeepsShelf, read_length, held_of, bytes_at, left_at, IsWithin};
+ghost use Rattle.joern_io.specs.Shelf.{NamesDiffer, KeepsShelf, read_length};
+ghost use Rattle.joern_io.specs.Shelf.{held_of, bytes_at, left_at, IsWithin};
 
 use crate::files::{Failed, Files};
 use crate::numbers::is_listed;
 use std::marker::Model;
 
-/// How far the open file was read.
+/// The file that is open, by its position, and how many of its bytes were read.
 #[derive(Clone, Copy, Debug)]
-struct Place {
-    file: usize,
-    at: usize,
+struct OpenFile {
+    position: usize,
+    offset: usize,
 }
 
 /// Files in memory. A read gives at most one piece, and the calls that are listed by their number
@@ -27,7 +30,7 @@ pub struct Shelf {
     piece: usize,
     fails: Vec<u32>,
     calls: u64,
-    place: Option<Place>,
+    open_file: Option<OpenFile>,
     faults: u64,
 }
 
@@ -42,11 +45,11 @@ impl Model for Shelf {
       piece = it.piece;
       fails = it.fails.items;
       calls = it.calls;
-      left = left_at it.files.items it.place;
+      left = left_at it.files.items it.open_file;
       faults = it.faults;
     } };
 
-    ghost invariant = { λ it. (1 ≤ it.piece) × IsWithin it.files.items it.place };
+    ghost invariant = { λ it. (1 ≤ it.piece) × IsWithin it.files.items it.open_file };
 }
 
 impl Shelf {
@@ -73,7 +76,7 @@ impl Shelf {
             piece,
             fails,
             calls: 0,
-            place: None,
+            open_file: None,
             faults: 0,
         }
     }
@@ -82,8 +85,8 @@ impl Shelf {
     pub fn names_differ(files: &[(String, Vec<u8>)]) -> bool
         ensures { IsTrue result ↔ NamesDiffer (held_of files.now) }
     {
-        for (index, file) in files.iter().enumerate() {
-            if place_of(&files[index + 1..], file.0.as_str()).is_some() {
+        for (position, file) in files.iter().enumerate() {
+            if position_of(&files[position + 1..], file.0.as_str()).is_some() {
                 return false;
             }
         }
@@ -145,14 +148,17 @@ impl Files for Shelf {
             OnErr result (self.new.faults ≡ next_count self.old.faults) }
     {
         self.calls = self.calls.saturating_add(1);
-        self.place = None;
-        let Some(file) = place_of(&self.files, name) else {
+        self.open_file = None;
+        let Some(position) = position_of(&self.files, name) else {
             return Err(Failed);
         };
         if is_listed(&self.fails, self.calls) {
             return Err(self.fault());
         }
-        self.place = Some(Place { file, at: 0 });
+        self.open_file = Some(OpenFile {
+            position,
+            offset: 0,
+        });
         Ok(())
     }
 
@@ -181,45 +187,45 @@ impl Files for Shelf {
         if is_listed(&self.fails, self.calls) {
             return Err(self.fault());
         }
-        let Some(place) = self.place else {
+        let Some(open_file) = self.open_file else {
             unreachable!()
         };
-        let count = copy_piece(left_from(&self.files, place), into, self.piece);
-        self.place = Some(Place {
-            file: place.file,
-            at: place.at + count,
+        let count = copy_piece(left_from(&self.files, open_file), into, self.piece);
+        self.open_file = Some(OpenFile {
+            position: open_file.position,
+            offset: open_file.offset + count,
         });
         Ok(count)
     }
 }
 
-/// The index of the first file of this name.
-fn place_of(files: &[(String, Vec<u8>)], name: &str) -> Option<usize>
-    ensures found { IfSome result (λ index.
-        (file_of (held_of files.now) name.now ≡ bytes_at files.now index)
-        × IsSome (bytes_at files.now index)) }
+/// The position of the first file of this name.
+fn position_of(files: &[(String, Vec<u8>)], name: &str) -> Option<usize>
+    ensures found { IfSome result (λ position.
+        (file_of (held_of files.now) name.now ≡ bytes_at files.now position)
+        × IsSome (bytes_at files.now position)) }
     ensures none { IfNone result (file_of (held_of files.now) name.now ≡ None) }
 {
-    for (index, file) in files.iter().enumerate() {
+    for (position, file) in files.iter().enumerate() {
         if file.0.as_str() == name {
-            return Some(index);
+            return Some(position);
         }
     }
     None
 }
 
-/// The bytes of the open file from the place on.
-fn left_from(files: &[(String, Vec<u8>)], place: Place) -> &[u8]
-    requires { IsWithin files.now (Some place) }
-    ensures { left_at files.now (Some place) ≡ Some result.now }
+/// The bytes that are left of the open file.
+fn left_from(files: &[(String, Vec<u8>)], open_file: OpenFile) -> &[u8]
+    requires within { IsWithin files.now (Some open_file) }
+    ensures { left_at files.now (Some open_file) ≡ Some result.now }
 {
-    &files[place.file].1[place.at..]
+    &files[open_file.position].1[open_file.offset..]
 }
 
 /// Copies the front of `left` to the front of `into`, of at most `piece` bytes, and returns how
 /// many.
 fn copy_piece(left: &[u8], into: &mut [u8], piece: usize) -> usize
-    requires { 1 ≤ piece }
+    requires some { 1 ≤ piece }
     ensures count { result ≡ min piece (min (length into.new) (length left.now)) }
     ensures front { take result into.new ≡ take result left.now }
     ensures end { into.new ≢ [] → result ≡ 0 → left.now ≡ [] }

@@ -1,5 +1,6 @@
 //! A sink in memory.
-ghost use Rattle.std.specs.Prelude.{◌≡◌, ◌<◌, ◌≤◌, ◌⊎◌, ◌↔◌, ◌++◌, Some, Ok, [], min, take, length, Contains, IsErr, IfOk, OnOk, OnErr};
+ghost use Rattle.std.specs.Prelude.{◌≡◌, ◌<◌, ◌≤◌, ◌⊎◌, ◌↔◌, ◌++◌, Some, Ok, [], min, take, length};
+ghost use Rattle.std.specs.Prelude.{Contains, IsErr, IfOk, OnOk, OnErr};
 ghost use Rattle.joern_io.specs.Faults.{next_count};
 ghost use Rattle.joern_io.specs.Tape.{room_left, KeepsTape};
 
@@ -55,7 +56,7 @@ impl Tape {
         piece: usize,
         fails: Vec<u32>,
     ) -> Result<Tape, AllocError>
-        requires { 1 ≤ piece }
+        requires some { 1 ≤ piece }
         ensures { IfOk result (λ tape. tape ≡ record {
           took = [];
           room = room;

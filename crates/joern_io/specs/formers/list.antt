@@ -1,1 +1,2 @@
+-- How a `List` stores its items.
 pub mod List

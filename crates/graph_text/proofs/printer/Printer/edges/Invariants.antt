@@ -1,10 +1,10 @@
 use Rattle.std.proofs.Common.{take}
 use Rattle.std.specs.Prelude.{flat_map}
 use Rattle.cpg_schema.specs.Lines.{edge_line}
-use Rattle.graph_text.specs.Printing.{output, Prints}
+use Rattle.graph_text.specs.Printing.{Prints}
 use Rattle.graph_text.proofs.printer.Printer.edges.Given as goal
 
 -- the lines so far were printed
-abbrev pub invariant-loop-place : goal.invariant-loop-place
-invariant-loop-place g l = Prints (output (g.S.Sink.took l.fn.sink) (g.S.Sink.faults l.fn.sink) l.fn.self)
-    (output (g.S.Sink.took l.sink) (g.S.Sink.faults l.sink) l.self) (flat_map edge_line (take l.place (g.G.GraphView.edges l.graph)))
+abbrev pub invariant-loop-position : goal.invariant-loop-position
+invariant-loop-position g l = Prints (g.S.Sink.state l.fn.sink, l.fn.self) (g.S.Sink.state l.sink, l.self)
+      (flat_map edge_line (take l.position (g.G.GraphView.edges l.graph)))

@@ -1,9 +1,9 @@
 use Rattle.std.proofs.Common.{take}
 use Rattle.cpg_schema.specs.Lines.{node_lines}
-use Rattle.graph_text.specs.Printing.{output, Prints}
+use Rattle.graph_text.specs.Printing.{Prints}
 use Rattle.graph_text.proofs.printer.Printer.nodes.Given as goal
 
 -- the lines so far were printed
 abbrev pub invariant-loop-id : goal.invariant-loop-id
-invariant-loop-id g l = Prints (output (g.S.Sink.took l.fn.sink) (g.S.Sink.faults l.fn.sink) l.fn.self)
-    (output (g.S.Sink.took l.sink) (g.S.Sink.faults l.sink) l.self) (node_lines 0 (take l.id (g.G.GraphView.nodes l.graph)))
+invariant-loop-id g l = Prints (g.S.Sink.state l.fn.sink, l.fn.self) (g.S.Sink.state l.sink, l.self)
+      (node_lines 0 (take l.id (g.G.GraphView.nodes l.graph)))

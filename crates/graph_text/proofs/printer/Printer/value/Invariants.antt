@@ -1,14 +1,14 @@
 use Rattle.std.proofs.Common.{◌≤◌, ◌-◌, length, take}
 use Rattle.cpg_schema.specs.Values.{escaped}
-use Rattle.graph_text.specs.Printing.{output, Prints}
+use Rattle.graph_text.specs.Printing.{Prints}
 use Rattle.graph_text.proofs.printer.Printer.value.Given as goal
 
 -- the bytes before `at` were printed
 abbrev pub invariant-loop-at : goal.invariant-loop-at
 invariant-loop-at g l = record {
   within : l.at ≤ length l.bytes;
-  printed : Prints (output (g.S.Sink.took l.fn.sink) (g.S.Sink.faults l.fn.sink) l.fn.self)
-      (output (g.S.Sink.took l.sink) (g.S.Sink.faults l.sink) l.self) (escaped (take l.at l.bytes));
+  printed : Prints (g.S.Sink.state l.fn.sink, l.fn.self) (g.S.Sink.state l.sink, l.self)
+      (escaped (take l.at l.bytes));
 }
 
 abbrev pub decreases-loop-at : goal.decreases-loop-at
