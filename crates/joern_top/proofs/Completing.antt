@@ -1,9 +1,10 @@
 -- Where no device failed, the run ends as the rules say.
-use Rattle.std.proofs.Common.{◌≡◌, ℕ, ◌⊎◌, inl, inr, List, Option, Some, sym, ◌∙◌}
+use Rattle.std.proofs.Common.{◌≡◌, ℕ, ◌⊎◌, inl, inr, List, Option, Some, refl, sym, ◌∙◌}
 use Rattle.joern_io.specs.Files.{RoseOrLacks}
 use Rattle.joern_io.specs.Held.{Held}
 use Rattle.joern_top.specs.declared.status.Status.TheVariants as status
 use Rattle.joern_top.specs.declared.answer.Answer.{Answer}
+use Rattle.joern_top.specs.declared.answer.Answer.TheVariants as answer
 use Rattle.joern_top.specs.Words.{Dump, command}
 use Rattle.joern_top.specs.Run.{Outcome, IsOutcome, read_fault_outcome}
 use Rattle.joern_top.specs.Answers.{outcome_of, IsDecided}
@@ -52,16 +53,29 @@ completes run a decided blames written =
 abbrev pub CanBeOk : Type 0
 CanBeOk = (words : List (List ℕ)) (held : Held) (o : Outcome) → CanAnswer words held → IsOutcome words held o → o.status ≡ status.Ok
 
-answers_so : CanBeOk → (run : Run) (held : Held) → CanAnswer run.words held → (run.status ≡ status.NoMemory → WantsMemory run) → Ends run held →
-    ((run.status ≡ status.Ok) × ((o : Outcome) × IsOutcome run.words held o × EndsAs run o)) ⊎ WantsMemory run
-answers_so ok run held can memory (inl (o, is, ended)) = inl (ended.0 ∙ ok run.words held o can is, (o, is, ended))
-answers_so ok run held can memory (inr wants) = inr (memory wants)
+-- Want of memory is the status of that answer alone.
+only_no_memory : (a : Answer) → (outcome_of a).status ≡ status.NoMemory → a ≡ answer.NoMemory
+only_no_memory answer.Usage is = absurd cc
+only_no_memory (answer.ReadFault name) is = absurd cc
+only_no_memory answer.TooLarge is = absurd cc
+only_no_memory (answer.Refused name refusal) is = absurd cc
+only_no_memory (answer.Dump read) is = absurd cc
+only_no_memory answer.NoMemory is = refl
 
-pub answers_what_it_can : CanBeOk → (run : Run) (a : Answer) → Decides run a → Blames run a → IsWritten run a →
-    (run.status ≡ status.NoMemory → WantsMemory run) → AnswersWhatItCan run
-answers_what_it_can ok run a decided blames written memory =
+-- So another answer does not end so.
+never_no_memory : (run : Run) (a : Answer) → ¬ (a ≡ answer.NoMemory) → IsWritten run a → ¬ (run.status ≡ status.NoMemory)
+never_no_memory run a other (inl (same, taken)) is = other (only_no_memory a (sym same ∙ is))
+never_no_memory run a other (inr (same, taken)) is = cc
+
+answers_so : CanBeOk → (run : Run) (held : Held) → CanAnswer run.words held → ¬ (run.status ≡ status.NoMemory) → Ends run held →
+    ((run.status ≡ status.Ok) × ((o : Outcome) × IsOutcome run.words held o × EndsAs run o)) ⊎ WantsMemory run
+answers_so ok run held can other (inl (o, is, ended)) = inl (ended.0 ∙ ok run.words held o can is, (o, is, ended))
+answers_so ok run held can other (inr wants) = absurd (other wants)
+
+pub answers_what_it_can : CanBeOk → (run : Run) (a : Answer) → ¬ (a ≡ answer.NoMemory) → Decides run a → Blames run a → IsWritten run a → AnswersWhatItCan run
+answers_what_it_can ok run a other decided blames written =
     let P : Held → Type 0 = λ held. IsDecided a → IsOutcome run.words held (outcome_of a) in
     let Q : Held → Type 0 = λ held. CanAnswer run.words held → MeetsNoFault run →
     ((run.status ≡ status.Ok) × ((o : Outcome) × IsOutcome run.words held o × EndsAs run o)) ⊎ WantsMemory run in
     if_told run.files_before.held P Q
-    (λ held told rules can no_fault. answers_so ok run held can memory (ends run held told no_fault a rules blames written)) decided
+    (λ held told rules can no_fault. answers_so ok run held can (never_no_memory run a other written) (ends run held told no_fault a rules blames written)) decided

@@ -1,8 +1,8 @@
 -- What becomes of a text: its reading stops, or the dropping of tokens stops, or the tokens that are
 -- kept for the parser are there.
-use Rattle.std.proofs.Common.{◌≡◌, ℕ, ◌⊎◌, inl, inr, List, Option, Some, None, refl, sym, ◌∙◌, ap, subst}
+use Rattle.std.proofs.Common.{◌≡◌, ℕ, ◌<◌, ◌⊎◌, inl, inr, List, length, Option, Some, None, refl, sym, ◌∙◌, ap, subst}
 use Rattle.std.specs.Prelude.{slice_get}
-use Rattle.std.proofs.lemmas.Option.{same_Some}
+use Rattle.std.proofs.lemmas.Option.{same_Some, slice_get_within}
 use Rattle.c_lexer.specs.declared.token.Token.{Token}
 use Rattle.c_lexer.specs.Reading.{AreTokensOf, StopsAt, LeavesOpen}
 use Rattle.line_marks.specs.Balance.{kind_at}
@@ -45,6 +45,12 @@ has_token : (tokens : List Token) (at : ℕ) (found : Option Token) → slice_ge
 unfolding kind_at
 has_token tokens at None is kind has = absurd cc
 has_token tokens at (Some token) is kind has = (token, is)
+
+-- The bad token is there.
+pub bad_within : (tokens : List Token) (at : ℕ) → StopsStripping tokens at → at < length tokens
+bad_within tokens at stop =
+    let (token, is) = has_token tokens at (slice_get tokens at) refl _ stop.bad.word in
+    slice_get_within tokens at token is
 
 fate_of_tokens : (bytes : List ℕ) (tokens : List Token) → AreTokensOf bytes tokens →
     ((kept : List ℕ) × AreKept tokens kept) ⊎ ((at : ℕ) × StopsStripping tokens at) → Fate bytes

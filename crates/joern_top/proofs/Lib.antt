@@ -7,4 +7,5 @@ pub mod Fate
 pub mod OneOutcome
 pub mod SomeOutcome
 pub mod Presuming
+pub mod Refusing
 pub mod FewNodes

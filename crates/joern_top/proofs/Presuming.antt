@@ -1,5 +1,5 @@
 -- What is held of a source is what it is read as: the places are the presumed ones.
-use Rattle.std.proofs.Common.{◌≡◌, ℕ, List, [], ◌∷◌, Option, refl, sym, ◌∙◌, ap, map}
+use Rattle.std.proofs.Common.{◌≡◌, ℕ, List, [], ◌∷◌, Option, refl, sym, ◌∙◌, ap, map, subst}
 use Rattle.std.specs.Option.{unwrap_or}
 use Rattle.std.specs.List.{AllZip}
 use Rattle.c_lexer.specs.Reading.{AreTokensOf}
@@ -13,7 +13,9 @@ use Rattle.ast_layer.specs.Source.{file, presumed_of}
 use Rattle.ast_layer.specs.SyntaxLayer.{syntax_layer}
 use Rattle.joern_top.specs.declared.read.SourceTokens.{SourceTokens}
 use Rattle.joern_top.specs.Source.{Parts, IsReadAs, graph_of}
-use Rattle.joern_top.specs.Reading.{held_file}
+use Rattle.cpg_schema.specs.Lines.{graph_lines}
+use Rattle.joern_top.specs.declared.read.ReadSource.{ReadSource}
+use Rattle.joern_top.specs.Reading.{held_file, layer_graph, IsReadSource}
 
 -- A presumed place, of its parts.
 abbrev presumed : List ℕ → ℕ → Presumed
@@ -62,3 +64,14 @@ held_as name bytes held unit holds =
       };
       graph = ap (λ places. syntax_layer (file name bytes (items_at tokens kept) places) unit) same;
     }
+
+-- So is the source that was read, with the lines of its layer.
+pub read_source_is : (name bytes text : List ℕ) (read : ReadSource) (unit : Unit) → text ≡ bytes → Holds name bytes read.tokens unit →
+    graph_lines (layer_graph (held_file name text read.tokens) read.layer) ≡ graph_lines (syntax_layer (held_file name text read.tokens) unit) →
+    read.name.now ≡ name → read.bytes.items ≡ bytes → IsReadSource name bytes read
+read_source_is name bytes text read unit same holds lines named whole =
+    let as_held = held_as name bytes read.tokens unit holds in
+    let P : List ℕ → Type 0 = λ text. graph_lines (layer_graph (held_file name text read.tokens) read.layer) ≡ graph_lines (syntax_layer (held_file name text read.tokens) unit) in
+    let Q : List ℕ → List ℕ → Type 0 = λ n b. graph_lines (layer_graph (held_file n b read.tokens) read.layer) ≡ graph_lines (syntax_layer (held_file name bytes read.tokens) unit) in
+    let own : Q read.name.now read.bytes.items = subst (λ n. Q n read.bytes.items) (sym named) (subst (λ b. Q name b) (sym whole) (subst P same lines)) in
+    record { parts = as_held.parts; is = as_held.is; lines = own ∙ ap graph_lines as_held.graph }

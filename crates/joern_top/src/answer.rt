@@ -1,6 +1,7 @@
 //! What is answered to the words, as it is decided before anything is written.
 
-ghost use Rattle.std.specs.Prelude.{◌≡◌, ◌≤◌, Some, IfSome, IsNone, map, string_bytes, vec_len};
+ghost use Rattle.std.specs.Prelude.{◌≡◌, ◌≤◌, Some, IfSome, IsNone, map, string_bytes};
+ghost use Rattle.std.specs.Prelude.{vec_len};
 ghost use Rattle.joern_io.specs.Held.{file_of};
 ghost use Rattle.joern_io.specs.Files.{KeepsFiles, RoseOrLacks};
 ghost use Rattle.joern_top.specs.Answers.{outcome_of, IsDecided, IfReadFault};

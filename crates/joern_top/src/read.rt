@@ -1,6 +1,7 @@
 //! A source that was read.
 
 ghost use Rattle.std.specs.Prelude.{◌≡◌, ◌≤◌, length, vec_len};
+ghost use Rattle.std.proofs.Props.{props};
 ghost use Rattle.cpg_schema.specs.Order.{in_order};
 ghost use Rattle.c_lexer.specs.declared.source_text.TheConstants.{MAX_FILE_BYTES};
 ghost use Rattle.line_marks.specs.Kept.{ArePositionsIn};
@@ -21,7 +22,7 @@ pub(crate) struct SourceTokens {
     pub(crate) places: List<Place>,
     /// The names of the files of the places.
     pub(crate) files: List<Bytes>,
-    ghost inside: { ArePositionsIn tokens.items kept.items },
+    ghost inside: { ArePositionsIn tokens.items kept.items } by { Prim.hlevel props },
     ghost one_each: { length places ≡ length tokens.items },
 }
 

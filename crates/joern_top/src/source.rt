@@ -7,17 +7,16 @@ ghost use Rattle.first_grammar.specs.FirstUnit.{IsFirstUnit};
 ghost use Rattle.cpg_schema.specs.Lines.{graph_lines};
 ghost use Rattle.cpg_schema.specs.Order.{in_order};
 ghost use Rattle.ast_layer.specs.Layer.{layer_edges};
-ghost use Rattle.ast_layer.specs.Source.{file_of};
 ghost use Rattle.ast_layer.specs.SyntaxLayer.{syntax_layer as graph_of};
 ghost use Rattle.joern_top.specs.Source.{IsStrippedTo};
-ghost use Rattle.joern_top.specs.Reading.{IsReadSource, IsStopOf, layer_graph};
+ghost use Rattle.joern_top.specs.Reading.{IsReadSource, IsStopOf, held_file, layer_graph};
 ghost use Rattle.joern_top.specs.Refusals.{IsRefusedAt};
 
 use crate::read::{ReadSource, SourceTokens};
 use crate::refusal::Refusal;
 use crate::status::Reason;
 use ast_layer::laws::law_few_nodes;
-use ast_layer::{Source, SyntaxLayer, syntax_layer};
+use ast_layer::{SyntaxLayer, syntax_layer};
 use c_lexer::laws::law_within_the_text;
 use c_lexer::{LexStop, MAX_FILE_BYTES, SourceText, Token, lex};
 use c_tree::Unit;
@@ -63,7 +62,7 @@ pub(crate) fn read_source<'a>(
     let unit = read_tree(alloc, text, &tokens, &kept)?;
     law_kept_positions();
     let tokens = SourceTokens { tokens, kept, places, files };
-    let layer = make_layer(alloc, tokens.source(name, text), &unit)?;
+    let layer = make_layer(alloc, name, text, &tokens, &unit)?;
     Ok(ReadSource {
         name,
         bytes,
@@ -126,24 +125,26 @@ fn read_tree(
     }
 }
 
-/// The syntax layer of a source with this tree.
+/// The syntax layer of a source with these tokens and this tree.
 fn make_layer(
     alloc: Global,
-    source: Source<'_>,
+    name: &str,
+    text: SourceText<'_>,
+    held: &SourceTokens,
     unit: &Unit,
 ) -> Result<SyntaxLayer, AllocError>
-    requires stripped { IsStrippedTo source.text.bytes.now source.tokens.now source.kept.now }
-    requires unit { IsFirstUnit source.text.bytes.now
-        (items_at source.tokens.now source.kept.now) unit.now }
+    requires stripped { IsStrippedTo text.bytes.now held.now.tokens.items held.now.kept.items }
+    requires unit { IsFirstUnit text.bytes.now
+        (items_at held.now.tokens.items held.now.kept.items) unit.now }
     ensures lines { IfOk result (λ layer.
-        graph_lines (layer_graph (file_of source.entry) layer) ≡
-        graph_lines (graph_of (file_of source.entry) unit.now)) }
+        let file = held_file name.now text.entry.bytes.now held.now in
+        graph_lines (layer_graph file layer) ≡ graph_lines (graph_of file unit.now)) }
     ensures in_order { IfOk result (λ layer. in_order (layer_edges layer) ≡ layer_edges layer) }
 {
     law_few_nodes();
     law_within_the_text();
     law_kept_positions();
-    syntax_layer(alloc, source, unit)
+    syntax_layer(alloc, held.source(name, text), unit)
 }
 
 /// The stop at a byte at which the rules refuse the text.
