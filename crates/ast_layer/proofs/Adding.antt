@@ -1,7 +1,9 @@
 -- What is added in two steps is added in one.
 use Rattle.std.proofs.Common.{◌≡◌, List, [], ◌++◌, refl, append_assoc, append-nil}
+use Rattle.std.proofs.lemmas.Grind.{common_steps}
 use Rattle.cpg_schema.specs.Graph.{PlainNode, PlainEdge}
 use Rattle.ast_layer.specs.Building.{Built, adding}
+use Rattle.ast_layer.proofs.Sizes.{size_laws}
 
 pub adding-file : (a : Built) (nodes : List PlainNode) (edges : List PlainEdge) →
     (adding a nodes edges).file ≡ a.file
@@ -29,3 +31,6 @@ adding-none a = simp append-nil
 
 -- What is known of each step, for a proof by several steps.
 pub ruleset adding_laws = (adding-file, adding-nodes, adding-edges, adding-twice, adding-none, append-nil)
+
+-- The same, with what is known of lists and of sizes.
+pub ruleset layer_steps = (common_steps, adding_laws, size_laws)

@@ -9,7 +9,7 @@ use Rattle.ast_layer.specs.Edges.{ast}
 use Rattle.ast_layer.specs.SyntaxLayer.{statement, grouped_part, item_parts, and_then, expressions, function_size, function_nodes, function_edges, functions_size, functions_nodes, functions_edges}
 use Rattle.ast_layer.proofs.Steps.{drop_step}
 
--- what is left begins with the item
+-- What is left begins with the item.
 pub left_is : {X : Type 0} → (items : List X) (i : ℕ) (item : X) → i < length items → item ≡ get_or items i item →
     drop i items ≡ item ∷ drop (i + 1) items
 left_is {X} items i item below is =
@@ -31,11 +31,11 @@ pub functions_edges-step : (at : ℕ) (items : List Item) (i : ℕ) (item : Item
     functions_edges at (drop i items) ≡ ast 1 at ∷ (function_edges at item ++ functions_edges (at + function_size item) (drop (i + 1) items))
 functions_edges-step at items i item below is = ap (functions_edges at) (left_is items i item below is)
 
--- a function has three nodes and those of its statements
+-- A function has three nodes and those of its statements.
 pub function_size-some : (item : Item) → 3 ≤ function_size item
 function_size-some (item_of.Define specs declarator body) = omega arith
 
--- the expression of a statement, where this is what stands first among its parts
+-- The expression of a statement, where this is what stands first among its parts.
 pub statement_is : (item : BlockItem) (parts : List Assign) (found : Option Assign) →
     parts ≡ item_parts item → found ≡ slice_get parts 0 → statement item ≡ grouped_part found
 statement_is item parts found all first =

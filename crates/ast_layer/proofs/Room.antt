@@ -21,7 +21,7 @@ use Rattle.ast_layer.specs.SyntaxLayer.{kind_parts, item_parts, grouped_part, an
 use Rattle.ast_layer.specs.Room.{StatementsSpell, FunctionSpells, FunctionsSpell}
 use Rattle.ast_layer.proofs.Sizes.{assign_size}
 
--- each target has its operator
+-- Each target has its operator.
 targets_spell : (targets : List (Prefixed × ℕ)) → length targets ≤ length (flat_map target_spelling targets)
 targets_spell [] = omega arith
 targets_spell (target ∷ targets) = omega (
@@ -32,7 +32,7 @@ targets_spell (target ∷ targets) = omega (
   length-append (prefixed_spelling target.0) (wanted target.1 (Among AssignOp)),
 )
 
--- each further operand has its operator
+-- Each further operand has its operator.
 operands_spell : (rest : List (ℕ × Prefixed)) → length rest ≤ length (flat_map operand_spelling rest)
 operands_spell [] = omega arith
 operands_spell (next ∷ rest) = omega (
@@ -43,7 +43,7 @@ operands_spell (next ∷ rest) = omega (
   length-append (wanted next.0 (Among BinaryOp)) (prefixed_spelling next.1),
 )
 
--- an assignment has at most one node more than two for each token
+-- An assignment has at most one node more than two for each token.
 assign_spells : (assign : Assign) → grouped_size (grouped_assign assign) ≤ 2 * length (assign_spelling assign) + 1
 assign_spells assign = omega (
   arith,
@@ -55,7 +55,7 @@ assign_spells assign = omega (
   length-append (prefixed_spelling assign.value.last.first) (flat_map operand_spelling assign.value.last.rest),
 )
 
--- the nodes of the first part, if there is one
+-- The nodes of the first part, if there is one.
 part_size : Option Assign → ℕ
 part_size None = 0
 part_size (Some part) = grouped_size (grouped_assign part)

@@ -13,12 +13,12 @@ use Rattle.ast_layer.specs.Edges.{ast}
 use Rattle.ast_layer.specs.Expressions.{grouped_size, grouped_nodes, grouped_edges}
 use Rattle.ast_layer.specs.SyntaxLayer.{children_size, children_nodes, expressions, function_size, function_nodes, functions_size, functions_nodes, children_edges, function_edges, functions_edges, unit_size, unit_nodes, unit_edges}
 
--- an expression has a node
+-- An expression has a node.
 pub grouped_size-pos : (grouped : Grouped) → 0 < grouped_size grouped
 grouped_size-pos (Operand operand) = omega arith
 grouped_size-pos (Joined operator left right) = omega arith
 
--- as many nodes as it has
+-- As many nodes as it has.
 pub length-grouped_nodes : (file : File) (rank : Rank) (grouped : Grouped) →
     length (grouped_nodes file rank grouped) ≡ grouped_size grouped
 length-grouped_nodes file rank (Operand operand) = refl
@@ -27,14 +27,14 @@ length-grouped_nodes file rank (Joined operator left right) =
     let r = length-grouped_nodes file (argument 2) right in
     omega (arith, length-append (grouped_nodes file (argument 1) left) (grouped_nodes file (argument 2) right))
 
--- a chain of n operators has n CALLs and n operands more
+-- A chain of n operators has n CALLs and n operands more.
 pub grouped_size-left : (left : Grouped) (rest : List (ℕ × Prefixed)) →
     grouped_size (to_the_left left rest) ≡ grouped_size left + 2 * length rest
 grouped_size-left left [] = omega arith
 grouped_size-left left (next ∷ rest) =
     omega (arith, grouped_size-left (Joined next.0 left (Operand next.1)) rest)
 
--- so has one of n targets
+-- So has one of n targets.
 pub grouped_size-right : (targets : List (Prefixed × ℕ)) (value : Grouped) →
     grouped_size (to_the_right targets value) ≡ 2 * length targets + grouped_size value
 grouped_size-right [] value = omega arith
@@ -81,7 +81,7 @@ length-unit_nodes file unit = omega (
   length-functions_nodes file 1 unit.items,
 )
 
--- a node has at most two edges that lead to it, and the first node of a layer has none within it
+-- A node has at most two edges that lead to it, and the first node of a layer has none within it.
 pub length-grouped_edges : (at : ℕ) (grouped : Grouped) → length (grouped_edges at grouped) + 2 ≡ 2 * grouped_size grouped
 length-grouped_edges at (Operand operand) = refl
 length-grouped_edges at (Joined operator left right) = omega (

@@ -10,7 +10,7 @@ use Rattle.ast_layer.specs.Expressions.{grouped_size, grouped_nodes, grouped_edg
 use Rattle.ast_layer.specs.Building.{operands_nodes}
 use Rattle.ast_layer.proofs.Sizes.{grouped_size-left}
 
--- what is left of a list begins with the item at the place
+-- What is left of a list begins with the item at the position.
 pub drop_step : {X : Type 0} → (xs : List X) (i : ℕ) (d : X) → i < length xs →
     drop i xs ≡ get_or xs i d ∷ drop (i + 1) xs
 drop_step xs i d below = rw add-one (drop-cons xs i d below)
@@ -19,7 +19,7 @@ pub take_step : {X : Type 0} → (xs : List X) (i : ℕ) (d : X) → i < length 
     take (i + 1) xs ≡ take i xs ++ get_or xs i d ∷ []
 take_step xs i d below = rw add-one (take-suc xs i d below)
 
--- the last operator of a chain is the outermost
+-- The last operator of a chain is the outermost.
 pub to_the_left-snoc : (left : Grouped) (rest : List (ℕ × Prefixed)) (last : ℕ × Prefixed) →
     to_the_left left (rest ++ last ∷ []) ≡ Joined last.0 (to_the_left left rest) (Operand last.1)
 to_the_left-snoc left [] last = refl
@@ -30,16 +30,16 @@ pub to_the_left-step : (left : Grouped) (rest : List (ℕ × Prefixed)) (i : ℕ
 to_the_left-step left rest i d below =
     ap (to_the_left left) (take_step rest i d below) ∙ to_the_left-snoc left (take i rest) (get_or rest i d)
 
--- a chain begins as its first operand does
+-- A chain begins as its first operand does.
 pub first_token-left : (left : Grouped) (rest : List (ℕ × Prefixed)) → first_token (to_the_left left rest) ≡ first_token left
 first_token-left left [] = refl
 first_token-left left (next ∷ rest) = first_token-left (Joined next.0 left (Operand next.1)) rest
 
--- the first operands of a chain, with their operators
+-- The first operands of a chain, with their operators.
 abbrev pub front : Prefixed → List (ℕ × Prefixed) → ℕ → Grouped
 front first rest n = to_the_left (Operand first) (take n rest)
 
--- the last of its operators, with that operator's right side
+-- The last of its operators, with that operator's right side.
 pub front-step : (first : Prefixed) (rest : List (ℕ × Prefixed)) (n left : ℕ) (item : ℕ × Prefixed) →
     left ≡ n + 1 → n < length rest → item ≡ get_or rest n item →
     front first rest left ≡ Joined item.0 (front first rest n) (Operand item.1)

@@ -12,7 +12,7 @@ use Rattle.ast_layer.specs.Source.{File, token_of, presumed_file_at, spelling_at
 use Rattle.ast_layer.specs.Operators.{operator_name}
 use Rattle.ast_layer.specs.Nodes.{argument, operand_node, type_text_limit}
 
--- the label of a form
+-- The label of a form.
 abbrev pub form_label : Form → Label
 form_label form.GlobalMethod = label.Method
 form_label form.GlobalReturn = label.MethodReturn
@@ -23,7 +23,7 @@ form_label form.Call = label.Call
 form_label form.Identifier = label.Identifier
 form_label form.Literal = label.Literal
 
--- the texts of a node of a form, from its token
+-- The name of a node of a form, from its token.
 abbrev pub form_name : File → Form → Option ℕ → Option (List ℕ)
 form_name file form.GlobalMethod token = Some (codes "<global>")
 form_name file form.GlobalReturn token = None
@@ -34,21 +34,24 @@ form_name file form.Call token = operator_name (token_of file token)
 form_name file form.Identifier token = Some (spelling_at file token)
 form_name file form.Literal token = None
 
+-- Its code.
 abbrev pub form_code : File → Form → Option ℕ → Option (List ℕ)
 form_code file form.Literal token = Some (spelling_at file token)
 form_code file _ token = None
 
+-- Its file.
 abbrev pub form_filename : File → Form → Option ℕ → Option (List ℕ)
 form_filename file form.GlobalMethod token = Some file.name
 form_filename file form.Method token = Some (presumed_file_at file token)
 form_filename file _ token = None
 
+-- Its type.
 abbrev pub form_type : File → Form → Option ℕ → Option (List ℕ)
 form_type file form.GlobalReturn token = Some (codes "void")
 form_type file form.MethodReturn token = Some (take type_text_limit (spelling_at file token))
 form_type file _ token = None
 
--- the node that is kept as this one
+-- The node of the graph that is kept as this one.
 abbrev pub plain_of : File → Node → PlainNode
 plain_of file node = record {
   label = form_label node.form;
@@ -63,11 +66,11 @@ plain_of file node = record {
   linkage = None;
 }
 
--- the edge that is kept as this one
+-- The edge of the graph that is kept as this one.
 abbrev pub plain_edge_of : Edge → PlainEdge
 plain_edge_of edge = record { from = edge.from; kind = edge.kind; to = edge.to; variable = [] }
 
--- a layer that is being built of a file
+-- A layer that is being built of a file: its nodes and edges so far.
 pub record Built : Type 0 where
   pub file : File
   pub nodes : List PlainNode
@@ -87,7 +90,8 @@ adding layer nodes edges =
 abbrev pub Adds : (before after : Built) → List PlainNode → List PlainEdge → Type 0
 Adds before after nodes edges = after ≡ adding before nodes edges
 
--- right operands of a chain, each of which is argument 2
+-- Right operands of a chain, each of which is argument 2.
 abbrev pub operands_nodes : File → List (ℕ × Prefixed) → List PlainNode
 operands_nodes file [] = []
-operands_nodes file (next ∷ rest) = operand_node file next.1 (argument 2) ∷ operands_nodes file rest
+operands_nodes file (next ∷ rest) =
+    operand_node file next.1 (argument 2) ∷ operands_nodes file rest

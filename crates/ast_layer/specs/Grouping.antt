@@ -6,12 +6,13 @@ use Rattle.c_tree.specs.declared.tree.BaseForm.TheVariants as base_form
 use Rattle.c_tree.specs.declared.tree.Binary.{Binary}
 use Rattle.c_tree.specs.declared.tree.Assign.{Assign}
 
--- an operand, or an operator with a left and a right side; an operator is the number of its token
+-- An operand, or an operator with a left and a right side; an operator is the number of its token.
 pub data Grouped : Type 0 where
   Operand : Prefixed → Grouped
   Joined : (operator : ℕ) → (left right : Grouped) → Grouped
 
--- The sum of what stands to the left and of operands, each after its operator: `a + b + c` is `(a + b) + c` (6.5.6).
+-- The sum of what stands to the left and of operands, each after its operator: `a + b + c` is
+-- `(a + b) + c` (6.5.6).
 abbrev pub to_the_left : Grouped → List (ℕ × Prefixed) → Grouped
 to_the_left left [] = left
 to_the_left left (next ∷ rest) = to_the_left (Joined next.0 left (Operand next.1)) rest
@@ -19,26 +20,27 @@ to_the_left left (next ∷ rest) = to_the_left (Joined next.0 left (Operand next
 -- The assignment to targets, each before its operator: `a = b = c` is `a = (b = c)` (6.5.16).
 abbrev pub to_the_right : List (Prefixed × ℕ) → Grouped → Grouped
 to_the_right [] value = value
-to_the_right (target ∷ targets) value = Joined target.1 (Operand target.0) (to_the_right targets value)
+to_the_right (target ∷ targets) value =
+    Joined target.1 (Operand target.0) (to_the_right targets value)
 
--- operands that are joined by binary operators of one precedence
+-- Operands that are joined by binary operators of one precedence.
 abbrev pub grouped_binary : Binary → Grouped
 grouped_binary binary = to_the_left (Operand binary.first) binary.rest
 
--- an assignment expression
+-- An assignment expression.
 abbrev pub grouped_assign : Assign → Grouped
 grouped_assign assign = to_the_right assign.targets (grouped_binary assign.value.last)
 
--- the first token of a primary expression (6.5.1)
+-- The first token of a primary expression (6.5.1).
 abbrev pub form_token : BaseForm → Option ℕ
 form_token (base_form.Name token) = Some token
 form_token (base_form.Literal tokens) = slice_get tokens 0
 
--- the first token of an operand
+-- The first token of an operand.
 abbrev pub operand_token : Prefixed → Option ℕ
 operand_token operand = form_token operand.base.form
 
--- the first token of a construct: that of its leftmost operand
+-- The first token of a construct: that of its leftmost operand.
 abbrev pub first_token : Grouped → Option ℕ
 first_token (Operand operand) = operand_token operand
 first_token (Joined operator left right) = first_token left

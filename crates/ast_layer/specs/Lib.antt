@@ -1,3 +1,4 @@
+-- In reading order: the file, the layer's nodes and edges, and what the code keeps.
 pub mod Source
 pub mod Operators
 pub mod Grouping

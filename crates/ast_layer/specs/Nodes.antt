@@ -1,4 +1,5 @@
--- The nodes of the syntax layer, with all their properties (Code Property Graph specification 1.1, layer AST).
+-- The nodes of the syntax layer, with all their properties (Code Property Graph specification 1.1,
+-- layer AST).
 use Rattle.std.specs.Prelude.{ℕ, Option, Some, None, codes, take, slice_get}
 use Rattle.cpg_schema.specs.declared.label.Label.TheVariants as label
 use Rattle.cpg_schema.specs.Graph.{PlainNode, bare_node}
@@ -9,19 +10,20 @@ use Rattle.ast_layer.specs.declared.node.Rank.{Rank}
 use Rattle.ast_layer.specs.Source.{File, token_of, presumed_line_at, presumed_file_at, spelling_at}
 use Rattle.ast_layer.specs.Operators.{operator_name}
 
--- the rank of a child that is no argument: its ORDER alone
+-- The rank of a child that is no argument: its ORDER alone.
 abbrev pub child : ℕ → Rank
 child order = record { order = order; argument_index = None }
 
--- the rank of an argument: its ORDER, which is its ARGUMENT_INDEX too
+-- The rank of an argument: its ORDER, which is its ARGUMENT_INDEX too.
 abbrev pub argument : ℕ → Rank
 argument order = record { order = order; argument_index = Some order }
 
--- the longest type text, in bytes
+-- The longest type text, in bytes.
 abbrev pub type_text_limit : ℕ
 type_text_limit = 200
 
--- The METHOD `<global>` of a file, which holds what the file declares. Its line is 1, as that of its BLOCK and METHOD_RETURN.
+-- The METHOD `<global>` of a file, which holds what the file declares. Its line is 1, as that of
+-- its BLOCK and METHOD_RETURN.
 abbrev pub global_method : File → PlainNode
 global_method file = record (bare_node label.Method) {
   name = Some (codes "<global>");
@@ -30,9 +32,11 @@ global_method file = record (bare_node label.Method) {
   order = Some 1;
 }
 
+-- The BLOCK of `<global>`.
 abbrev pub global_block : PlainNode
 global_block = record (bare_node label.Block) { line_number = Some 1; order = Some 1 }
 
+-- The METHOD_RETURN of `<global>`.
 abbrev pub global_return : PlainNode
 global_return = record (bare_node label.MethodReturn) {
   line_number = Some 1;
@@ -49,11 +53,14 @@ method_node file name order = record (bare_node label.Method) {
   order = Some order;
 }
 
--- the BLOCK of a body whose `{` this is
+-- The BLOCK of a body whose `{` this is.
 abbrev pub block_node : File → Option ℕ → PlainNode
-block_node file brace = record (bare_node label.Block) { line_number = Some (presumed_line_at file brace); order = Some 1 }
+block_node file brace = record (bare_node label.Block) {
+  line_number = Some (presumed_line_at file brace);
+  order = Some 1;
+}
 
--- the METHOD_RETURN of the function with this name and this type specifier
+-- The METHOD_RETURN of the function with this name and this type specifier.
 abbrev pub return_node : File → Option ℕ → Option ℕ → PlainNode
 return_node file name specifier = record (bare_node label.MethodReturn) {
   line_number = Some (presumed_line_at file name);
@@ -70,7 +77,7 @@ call_node file operator first rank = record (bare_node label.Call) {
   argument_index = rank.argument_index;
 }
 
--- the IDENTIFIER or the LITERAL that a primary expression is
+-- The IDENTIFIER or the LITERAL that a primary expression is.
 abbrev pub form_node : File → BaseForm → Rank → PlainNode
 form_node file (base_form.Name token) rank = record (bare_node label.Identifier) {
   name = Some (spelling_at file (Some token));
@@ -85,6 +92,6 @@ form_node file (base_form.Literal tokens) rank = record (bare_node label.Literal
   argument_index = rank.argument_index;
 }
 
--- the node of an operand
+-- The node of an operand.
 abbrev pub operand_node : File → Prefixed → Rank → PlainNode
 operand_node file operand rank = form_node file operand.base.form rank

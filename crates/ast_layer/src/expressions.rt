@@ -22,7 +22,7 @@ fn token_of(operand: &Prefixed) -> Option<u32>
     }
 }
 
-#[tactic(auto, using(std::proofs::lemmas::Grind::common_steps, crate::proofs::Adding::adding_laws))]
+#[tactic(auto, using(crate::proofs::Adding::layer_steps))]
 impl<'s> Builder<'s> {
     /// Adds the layer of an assignment expression.
     pub(crate) fn assign(&mut self, assign: &Assign, rank: Rank) -> Result<(), AllocError>
@@ -41,7 +41,7 @@ impl<'s> Builder<'s> {
     fn targets(&mut self, assign: &Assign, rank: Rank) -> Result<Rank, AllocError>
         requires room { length self.old.nodes + grouped_size (grouped_assign assign.now) ≤
             MAX_NODES }
-        ensures whole { IfOk result (λ after.
+        ensures ok { IfOk result (λ after.
             adding self.new
             (grouped_nodes self.new.file after (grouped_binary assign.now.value.last))
             (grouped_edges (length self.new.nodes) (grouped_binary assign.now.value.last)) ≡

@@ -3,7 +3,9 @@
 ghost use Rattle.std.specs.Prelude.{◌≡◌, ◌+◌, ◌≤◌, ◌∷◌, length, slice_get, OnOk};
 ghost use Rattle.ast_layer.specs.Nodes.{block_node};
 ghost use Rattle.ast_layer.specs.Building.{Adds};
-ghost use Rattle.ast_layer.specs.SyntaxLayer.{children_edges, children_nodes, children_size, expressions, function_edges, function_nodes, function_size, item_parts, name_token, type_token};
+ghost use Rattle.ast_layer.specs.SyntaxLayer.{children_edges, children_nodes, children_size};
+ghost use Rattle.ast_layer.specs.SyntaxLayer.{expressions, item_parts, name_token, type_token};
+ghost use Rattle.ast_layer.specs.SyntaxLayer.{function_edges, function_nodes, function_size};
 
 use crate::builder::Builder;
 use crate::node::{Form, Node, Rank};
@@ -41,6 +43,7 @@ fn parts_of(item: &BlockItem) -> &[Assign]
     }
 }
 
+#[tactic(auto, using(crate::proofs::Adding::layer_steps))]
 impl<'s> Builder<'s> {
     /// Adds the layer of a function, which is a child of node 1.
     pub(crate) fn function(&mut self, item: &Item, order: u32) -> Result<(), AllocError>
@@ -59,7 +62,6 @@ impl<'s> Builder<'s> {
     }
 
     /// Adds the layer of a function, by the parts of its definition.
-    #[tactic(auto, using(std::proofs::lemmas::Grind::common_steps, crate::proofs::Adding::adding_laws, crate::proofs::Sizes::size_laws))]
     fn define(
         &mut self,
         specs: &Specs,
@@ -96,7 +98,6 @@ impl<'s> Builder<'s> {
     }
 
     /// Adds the `BLOCK` of a body, and its statements.
-    #[tactic(auto, using(std::proofs::lemmas::Grind::common_steps, crate::proofs::Adding::adding_laws, crate::proofs::Sizes::size_laws))]
     fn body(&mut self, body: &Block) -> Result<(), AllocError>
         requires room { length self.old.nodes + (1 + children_size (expressions body.now.items)) ≤
             MAX_NODES }
@@ -119,7 +120,6 @@ impl<'s> Builder<'s> {
     }
 
     /// Adds the statements that are the children of a block.
-    #[tactic(auto, using(std::proofs::lemmas::Grind::common_steps, crate::proofs::Adding::adding_laws, crate::proofs::Sizes::size_laws))]
     fn statements(&mut self, items: &[BlockItem], block: u32) -> Result<(), AllocError>
         requires room { length self.old.nodes + children_size (expressions items.now) ≤ MAX_NODES }
         ensures { OnOk result (Adds self.old self.new

@@ -1,3 +1,5 @@
+//! A layer, as it is kept.
+
 ghost use Rattle.std.specs.Prelude.{◌<◌, ◌^◌, length};
 
 use crate::edge::Edge;

@@ -1,3 +1,5 @@
+//! The nodes of a layer, as they are kept.
+
 ghost use Rattle.std.specs.Prelude.{◌≡◌};
 ghost use Rattle.ast_layer.specs.Nodes.{argument, child};
 ghost use Rattle.ast_layer.specs.Building.{form_label};
@@ -20,7 +22,7 @@ pub(crate) enum Form {
     Literal,
 }
 
-/// The place of a node among its parent's children, from 1, and where it is an argument its place
+/// The rank of a node among its parent's children, from 1, and where it is an argument its rank
 /// among the arguments.
 #[derive(Clone, Copy, Debug)]
 pub(crate) struct Rank {

@@ -1,3 +1,5 @@
+//! The names of operators.
+
 ghost use Rattle.std.specs.Prelude.{◌≡◌};
 ghost use Rattle.std.specs.Option.{option_copied};
 ghost use Rattle.ast_layer.specs.Operators.{operator_name};

@@ -32,7 +32,8 @@ pub struct Source<'s> {
 
 impl<'s> Source<'s> {
     ghost use Rattle.std.specs.Option.{option_map};
-    ghost use Rattle.ast_layer.specs.Source.{file_of, presumed_file_at, presumed_line_at, place_of, presumed_of, spelling_at, token_of};
+    ghost use Rattle.ast_layer.specs.Source.{file_of, place_of, presumed_of, token_of};
+    ghost use Rattle.ast_layer.specs.Source.{presumed_file_at, presumed_line_at, spelling_at};
 
     /// The token of this number, if there is one.
     pub(crate) fn token(&self, number: Option<u32>) -> Option<Token>

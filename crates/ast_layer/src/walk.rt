@@ -5,7 +5,9 @@ ghost use Rattle.cpg_schema.specs.Graph.{plain_graph};
 ghost use Rattle.cpg_schema.specs.Lines.{graph_lines};
 ghost use Rattle.cpg_schema.specs.Order.{in_order};
 ghost use Rattle.ast_layer.specs.Source.{file_of};
-ghost use Rattle.ast_layer.specs.SyntaxLayer.{functions_edges, functions_nodes, functions_size, syntax_layer as graph_of, unit_edges, unit_nodes, unit_size};
+ghost use Rattle.ast_layer.specs.SyntaxLayer.{functions_edges, functions_nodes, functions_size};
+ghost use Rattle.ast_layer.specs.SyntaxLayer.{unit_edges, unit_nodes, unit_size};
+ghost use Rattle.ast_layer.specs.SyntaxLayer.{syntax_layer as graph_of};
 ghost use Rattle.ast_layer.specs.Building.{Adds};
 ghost use Rattle.ast_layer.specs.Layer.{layer_edges, layer_nodes};
 
@@ -43,9 +45,9 @@ pub fn syntax_layer(
     builder.finish(alloc)
 }
 
+#[tactic(auto, using(crate::proofs::Adding::layer_steps))]
 impl<'s> Builder<'s> {
     /// Adds the layer of a file where there is none yet.
-    #[tactic(auto, using(std::proofs::lemmas::Grind::common_steps, crate::proofs::Adding::adding_laws, crate::proofs::Sizes::size_laws))]
     fn unit(&mut self, unit: &Unit) -> Result<(), AllocError>
         requires none { self.old.nodes ≡ [] }
         requires room { unit_size unit.now ≤ MAX_NODES }
@@ -77,7 +79,6 @@ impl<'s> Builder<'s> {
     }
 
     /// Adds the functions of a file, which are the children of node 1.
-    #[tactic(auto, using(std::proofs::lemmas::Grind::common_steps, crate::proofs::Adding::adding_laws, crate::proofs::Sizes::size_laws))]
     fn functions(&mut self, items: &[Item]) -> Result<(), AllocError>
         requires room { length self.old.nodes + functions_size items.now ≤ MAX_NODES }
         ensures { OnOk result (Adds self.old self.new

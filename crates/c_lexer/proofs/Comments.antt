@@ -1,8 +1,9 @@
 -- What is passed over between tokens: blanks and comments.
-use Rattle.std.proofs.Common.{◌≡◌, ℕ, ◌+◌, ◌<◌, ◌≤◌, ◌⊎◌, List, Option, Some, None, MatchOption, length, slice_index, sym, ◌∙◌, arith, inl, inr}
+use Rattle.std.proofs.Common.{◌≡◌, ℕ, ◌+◌, ◌<◌, ◌≤◌, ◌⊎◌, List, Option, Some, None, length, slice_index, sym, ◌∙◌, arith, inl, inr}
 use Rattle.std.proofs.lemmas.Bool.{cases_order}
 use Rattle.c_lexer.specs.Bytes.{IsBlank, slash, asterisk}
 use Rattle.c_lexer.specs.Comments.{IsPair, BeginsComment, IsBlockComment, IsLineComment}
+use Rattle.c_lexer.specs.Finds.{Finds}
 use Rattle.c_lexer.specs.Passing.{IsPassed}
 use Rattle.c_lexer.specs.Spelling.{Spells}
 use Rattle.c_lexer.specs.Reading.{BeginsNoToken}
@@ -75,8 +76,8 @@ no_block bytes from opens none to (inr (inl a)) = none to a
 no_block bytes from opens none to (inr (inr a)) = one_comment bytes from opens a.opens
 
 -- what stands at a `/*` is passed over as a block comment
-pub block_passed : (bytes : List ℕ) (from : ℕ) (end : Option ℕ) → IsPair bytes from slash asterisk → MatchOption end ((to : ℕ) → IsBlockComment bytes from to → ⊥) (λ to. IsBlockComment bytes from to) → MatchOption end (IsPair bytes from slash asterisk × ((to : ℕ) → IsPassed bytes from to → ⊥)) (λ to. IsPassed bytes from to)
-block_passed bytes from None opens none = (opens, no_block bytes from opens none)
+pub block_passed : (bytes : List ℕ) (from : ℕ) (end : Option ℕ) → IsPair bytes from slash asterisk → Finds (IsBlockComment bytes from) end → Finds (IsPassed bytes from) end
+block_passed bytes from None opens none = no_block bytes from opens none
 block_passed bytes from (Some to) opens block = inr (inl block)
 
 -- ---- No token

@@ -1,15 +1,19 @@
 -- Line markers and pragmas.
-use Rattle.std.proofs.Common.{◌≡◌, ℕ, ◌+◌, ◌-◌, ◌<◌, ◌≤◌, List, Option, Some, None, codes, length, slice_index, slice_range, refl, ap, sym, ◌∙◌, arith, inl, inr, subst, ◌==◌, not}
+use Rattle.std.proofs.Common.{◌≡◌, ℕ, suc, zero, ◌+◌, ◌-◌, ◌<◌, ◌≤◌, List, Option, Some, None, codes, length, slice_index, slice_range, refl, ap, sym, ◌∙◌, arith, inl, inr, subst, ◌==◌, not}
 use Rattle.std.proofs.lemmas.List.Sums.{AllPass-from_list_all}
 use Rattle.c_lexer.specs.Bytes.{line_feed, double_quote, IsDigit, IsLineBlank}
 use Rattle.c_lexer.specs.Lines.{AreLineBlanks, EndsLine, OnOneLine}
 use Rattle.c_lexer.specs.Literals.{IsQuoted}
 use Rattle.c_lexer.specs.Directives.{IsGap, IsLineNumber, IsFileName, IsFilePart, AreFlags, none, flag, IsMarkerOf, IsPragma, digits_value}
-use Rattle.c_lexer.specs.Scanning.{BeginsFlag, EndsGap, IsMarkerRest, IsOnlyFile, IsDirectiveKind, IsOnlyDirective}
+use Rattle.std.specs.Borrow.{Bor}
+use Rattle.c_lexer.specs.Scanning.{BeginsFlag, BeginsName, EndsGap, IsFileAt, IsMarkerAt, IsDirectiveAt, IsDirectiveKind, name_of}
+use Rattle.c_lexer.specs.declared.marker.FoundFile.{FoundFile}
+use Rattle.c_lexer.specs.declared.marker.FoundMarker.{FoundMarker}
+use Rattle.c_lexer.specs.declared.token.FoundToken.{FoundToken}
 use Rattle.c_lexer.specs.Spelling.{Spells}
 use Rattle.c_lexer.specs.declared.token.Kind.{Kind}
 use Rattle.c_lexer.specs.declared.token.Kind.TheVariants.{Line, Pragma}
-use Rattle.c_lexer.proofs.Parts.{part_place, part_first, run_once}
+use Rattle.c_lexer.proofs.Parts.{part_place, part_first, run_more, run_once}
 use Rattle.c_lexer.proofs.Literals.{quoted_once, quoted_on_one_line, characters_forward}
 use Rattle.c_lexer.proofs.Lines.{inside, line_end, one_end, one_line_joined, byte_on_one_line, no_blank_past, blanks_once, blanks_on_one_line}
 
@@ -28,6 +32,10 @@ no_digit_at_gap bytes from to g d = let b = g.blanks from (omega arith) g.some i
 -- at the end of a line stands no digit
 no_digit_at_end : (bytes : List ℕ) (from : ℕ) → EndsLine bytes from → IsDigit (slice_index bytes from) → ⊥
 no_digit_at_end bytes from e d = let l = (line_end bytes from e).byte in grind arith
+
+-- one more blank goes on with a gap
+gap_more : (bytes : List ℕ) (from to : ℕ) → IsGap bytes from to → IsLineBlank (slice_index bytes to) → IsGap bytes from (to + 1)
+gap_more bytes from to gap blank = let some = gap.some in record { some = omega arith; blanks = run_more (λ i. IsLineBlank (slice_index bytes i)) from to gap.blanks blank }
 
 -- the flags of a marker end where no flag begins
 flags_stop : (bytes : List ℕ) {from p q : ℕ} → AreFlags bytes from p → AreFlags bytes from q → (BeginsFlag bytes p → ⊥) → EndsLine bytes q → q ≡ p
@@ -225,6 +233,24 @@ pub flags_more : (bytes : List ℕ) {from at digit : ℕ} → AreFlags bytes fro
 flags_more bytes none g l h = flag g l h none
 flags_more bytes (flag i m k r) g l h = flag i m k (flags_more bytes r g l h)
 
+-- where no gap is the longest, none begins
+no_gap_from : (bytes : List ℕ) (from : ℕ) → ((to : ℕ) → ¬ EndsGap bytes from to) → (n to : ℕ) → length bytes ≤ to + n → to ≤ length bytes → ¬ IsGap bytes from to
+no_gap_from bytes from no_end zero to h within gap = no_end to (record { within = within; gap = gap; ends = λ inside. absurd (omega arith) })
+no_gap_from bytes from no_end (suc n) to h within gap = no_end to (record {
+  within = within;
+  gap = gap;
+  ends = λ inside blank. no_gap_from bytes from no_end n (to + 1) (omega arith) (omega arith) (gap_more bytes from to gap blank);
+})
+
+pub no_gap : (bytes : List ℕ) (from : ℕ) → ((to : ℕ) → ¬ EndsGap bytes from to) → (to : ℕ) → to ≤ length bytes → ¬ IsGap bytes from to
+no_gap bytes from no_end to within gap = no_gap_from bytes from no_end (length bytes - to) to (omega arith) within gap
+
+-- what stands of a marker behind the number of its line
+pub record IsMarkerRest (bytes : List ℕ) (from flags to : ℕ) (file : Option (List ℕ)) : Type 0 where
+  pub file_part : IsFilePart bytes from flags file
+  pub flagged : AreFlags bytes flags to
+  pub ends_line : EndsLine bytes to
+
 -- what stands of a marker behind the gap
 pub record IsMarkerTail (bytes : List ℕ) (number to line : ℕ) (file : Option (List ℕ)) : Type 0 where
   pub past : ℕ
@@ -265,13 +291,35 @@ marker_rest bytes number past to line other file t n ends =
     (λ d. ends (inside bytes past (omega arith)) d) in
     (t.flags, subst (λ at. IsMarkerRest bytes at t.flags to file) same.0 t.rest)
 
+-- where a marker goes on without a name, none begins
+rest_no_name : (bytes : List ℕ) (from flags to : ℕ) (file : Option (List ℕ)) → IsMarkerRest bytes from flags to file → file ≡ None → ¬ BeginsName bytes from
+rest_no_name bytes from flags to None rest e name = no_flag_at_quote bytes from name.opening name.gap name.quote (subst (λ at. AreFlags bytes at to) (sym rest.file_part) rest.flagged) rest.ends_line
+rest_no_name bytes from flags to (Some file) rest e name = cc
+
+-- the name of a marker, or its lack, stands behind the number of its line
+pub file_at : (bytes : List ℕ) (from flags to : ℕ) (name : Option (Bor (List ℕ))) → IsMarkerRest bytes from flags to (name_of name) → IsFileAt bytes from (record { name = name; end = flags })
+file_at bytes from flags to name rest =
+    let within = (line_end bytes to rest.ends_line).within in
+    let forward = flags_forward bytes rest.flagged in
+    record {
+      within = omega arith;
+      part = rest.file_part;
+      none = λ e. rest_no_name bytes from flags to (name_of name) rest (ap name_of e);
+    }
+
+-- and stands there once
+file_ends : (bytes : List ℕ) (from flags to end : ℕ) (name : Option (Bor (List ℕ))) (file : Option (List ℕ)) → IsFilePart bytes from end (name_of name) → (name ≡ None → ¬ BeginsName bytes from) → IsMarkerRest bytes from flags to file → flags ≡ end
+file_ends bytes from flags to end None None part no_name rest = sym rest.file_part ∙ part
+file_ends bytes from flags to end None (Some file) part no_name rest = absurd (no_name refl (record { opening = rest.file_part.opening; gap = rest.file_part.gap; quote = rest.file_part.quoted.opens }))
+file_ends bytes from flags to end (Some name) None part no_name rest = absurd (no_flag_at_name bytes from end name.now part (subst (λ at. AreFlags bytes at to) (sym rest.file_part) rest.flagged) rest.ends_line)
+file_ends bytes from flags to end (Some name) (Some file) part no_name rest = (name_once bytes from flags end file name.now rest.file_part part).0
+
 -- a marker ends where no more flag begins
-pub marker_end : (bytes : List ℕ) (from flags past to end : ℕ) (file name : Option (List ℕ)) → IsMarkerRest bytes from past to file → IsOnlyFile bytes from flags name → AreFlags bytes flags end → (BeginsFlag bytes end → ⊥) → EndsLine bytes end
-marker_end bytes from flags past to end file name r last flagged stops =
-    let within = (line_end bytes to r.ends_line).within in
-    let same = last.only file past to within r in
-    let stop = flags_stop bytes flagged (subst (λ at. AreFlags bytes at to) same r.flagged) stops r.ends_line in
-    subst (EndsLine bytes) stop r.ends_line
+pub marker_end : (bytes : List ℕ) (from flags to end : ℕ) (file : Option (List ℕ)) (found : FoundFile) → IsMarkerRest bytes from flags to file → IsFileAt bytes from found → AreFlags bytes found.end end → ¬ BeginsFlag bytes end → EndsLine bytes end
+marker_end bytes from flags to end file found rest named flagged stops =
+    let same = file_ends bytes from flags to found.end found.name file named.part named.none rest in
+    let stop = flags_stop bytes flagged (subst (λ at. AreFlags bytes at to) same rest.flagged) stops rest.ends_line in
+    subst (EndsLine bytes) stop rest.ends_line
 
 -- where a marker has a name, it opens where the gap ends
 pub quote_at_gap : (bytes : List ℕ) (from at opening : ℕ) → EndsGap bytes from at → IsGap bytes from opening → slice_index bytes opening ≡ double_quote → (slice_index bytes at ≡ double_quote) × (at < length bytes)
@@ -280,18 +328,17 @@ quote_at_gap bytes from at opening g gap quote =
     let is = rw same at quote in
     (is, inside bytes at (omega arith))
 
--- the quotes that open at the place are closed directly before `past`
-pub record IsNamedRest (bytes : List ℕ) (opening past : ℕ) : Type 0 where
+-- the quotes that open at the offset are closed directly before `past`
+pub record IsNamed (bytes : List ℕ) (opening past : ℕ) : Type 0 where
   pub closing : ℕ
   pub within : closing < length bytes
   pub quoted : IsQuoted bytes (slice_index bytes opening) opening closing
   pub end : past ≡ closing + 1
 
--- where a quote stands behind the gap, a marker goes on with a name
-pub named_rest : (bytes : List ℕ) (from opening past to : ℕ) (file : Option (List ℕ)) → EndsGap bytes from opening → slice_index bytes opening ≡ double_quote → IsMarkerRest bytes from past to file → IsNamedRest bytes opening past
-named_rest bytes from opening past to None g quote r = absurd (no_flag_at_quote bytes from opening g.gap quote (subst (λ at. AreFlags bytes at to) (sym r.file_part) r.flagged) r.ends_line)
-named_rest bytes from opening past to (Some name) g quote r =
-    let n = r.file_part in
+-- where a quote stands behind the gap, a file has a name
+named : (bytes : List ℕ) (from opening end : ℕ) (name : Option (Bor (List ℕ))) → EndsGap bytes from opening → slice_index bytes opening ≡ double_quote → IsFilePart bytes from end (name_of name) → (name ≡ None → ¬ BeginsName bytes from) → IsNamed bytes opening end
+named bytes from opening end None g quote part no_name = absurd (no_name refl (record { opening = opening; gap = g.gap; quote = quote }))
+named bytes from opening end (Some name) g quote n no_name =
     let opens = n.quoted.opens in
     let closes = n.quoted.closes in
     let same : n.opening ≡ opening = gap_once bytes from n.opening opening n.gap g.gap (λ b. grind arith) (no_blank_past bytes opening g.ends) in
@@ -303,55 +350,59 @@ named_rest bytes from opening past to (Some name) g quote r =
       end = n.end;
     }
 
--- behind the closing quote it goes on, and nowhere else
-pub named_last : (bytes : List ℕ) (from opening closing : ℕ) → EndsGap bytes from opening → slice_index bytes opening ≡ double_quote → IsQuoted bytes (slice_index bytes opening) opening closing → IsOnlyFile bytes from (closing + 1) (Some (slice_range bytes (opening + 1) closing))
-named_last bytes from opening closing g quote quoted = record {
-  part = record {
-    opening = opening;
-    closing = closing;
-    gap = g.gap;
-    quoted = subst (λ byte. IsQuoted bytes byte opening closing) quote quoted;
-    end = refl;
-    name_is = refl;
-  };
-  only = λ other past to within rest.
-      let n = named_rest bytes from opening past to other g quote rest in
-      let same = quoted_once bytes (slice_index bytes opening) opening n.closing closing (λ e. omega arith) n.quoted quoted in
-      n.end ∙ ap (λ at. at + 1) same;
+pub named_file : (bytes : List ℕ) (from opening : ℕ) (found : FoundFile) → EndsGap bytes from opening → slice_index bytes opening ≡ double_quote → IsFileAt bytes from found → IsNamed bytes opening found.end
+named_file bytes from opening found g quote h = named bytes from opening found.end found.name g quote h.part h.none
+
+-- a name whose quotes are closed
+pub named_part : (bytes : List ℕ) (from opening closing : ℕ) → EndsGap bytes from opening → slice_index bytes opening ≡ double_quote → IsQuoted bytes (slice_index bytes opening) opening closing → IsFilePart bytes from (closing + 1) (Some (slice_range bytes (opening + 1) closing))
+named_part bytes from opening closing g quote quoted = record {
+  opening = opening;
+  closing = closing;
+  gap = g.gap;
+  quoted = subst (λ byte. IsQuoted bytes byte opening closing) quote quoted;
+  end = refl;
+  name_is = refl;
 }
 
--- where no quote stands behind the gap, or no gap, a marker goes on without a name
-pub nameless_rest : (bytes : List ℕ) (from past to : ℕ) (file : Option (List ℕ)) → ((opening : ℕ) → IsGap bytes from opening → slice_index bytes opening ≡ double_quote → ⊥) → IsMarkerRest bytes from past to file → past ≡ from
-nameless_rest bytes from past to None no_name r = sym r.file_part
-nameless_rest bytes from past to (Some name) no_name r = absurd (no_name r.file_part.opening r.file_part.gap r.file_part.quoted.opens)
+-- lines that begin with `#` from one offset end at one
+pub directive_once : (bytes : List ℕ) (from p q : ℕ) (kind other : Kind) → IsDirectiveKind kind → Spells bytes from p kind → IsDirectiveKind other → Spells bytes from q other → p ≡ q
+directive_once bytes from p q kind other (inl e) s (inl f) t =
+    let m = subst (Spells bytes from p) e s in
+    let n = subst (Spells bytes from q) f t in
+    (marker_once bytes from p q m.0 n.0 m.1 n.1 m.2 n.2).0
+directive_once bytes from p q kind other (inl e) s (inr f) t =
+    let m = subst (Spells bytes from p) e s in
+    absurd (marker_no_pragma bytes from p q m.0 m.1 m.2 (subst (Spells bytes from q) f t))
+directive_once bytes from p q kind other (inr e) s (inl f) t =
+    let n = subst (Spells bytes from q) f t in
+    absurd (marker_no_pragma bytes from q p n.0 n.1 n.2 (subst (Spells bytes from p) e s))
+directive_once bytes from p q kind other (inr e) s (inr f) t = pragma_once bytes from p q (subst (Spells bytes from p) e s) (subst (Spells bytes from q) f t)
 
--- a pragma is the only directive at its place
-pub pragma_last : (bytes : List ℕ) (from to : ℕ) → to ≤ length bytes → IsPragma bytes from to → IsOnlyDirective bytes from to Pragma
-pragma_last bytes from to within p = record {
-  is = inr refl;
-  within = within;
-  spelled = p;
-  only = λ other past l is s. elim is [
-    | inl e ↦ let m = subst (Spells bytes from past) e s in absurd (marker_no_pragma bytes from past to m.0 m.1 m.2 p)
-    | inr e ↦ pragma_once bytes from past to (subst (Spells bytes from past) e s) p
-  ];
-}
+-- such a line has a byte
+pub directive_forward : (bytes : List ℕ) (from to : ℕ) (kind : Kind) → IsDirectiveKind kind → Spells bytes from to kind → from < to
+directive_forward bytes from to kind (inl e) s = let m = subst (Spells bytes from to) e s in marker_forward bytes from to m.0 m.1 m.2
+directive_forward bytes from to kind (inr e) s = pragma_forward bytes from to (subst (Spells bytes from to) e s)
 
--- so is a line marker
-pub marker_last : (bytes : List ℕ) (from to line : ℕ) (file : Option (List ℕ)) → to ≤ length bytes → IsMarkerOf bytes from to line file → IsOnlyDirective bytes from to Line
-marker_last bytes from to line file within m = record {
-  is = inl refl;
-  within = within;
-  spelled = (line, file, m);
-  only = λ other past l is s. elim is [
-    | inl e ↦ let n = subst (Spells bytes from past) e s in (marker_once bytes from past to n.0 line n.1 file n.2 m).0
-    | inr e ↦ absurd (marker_no_pragma bytes from to past line file m (subst (Spells bytes from past) e s))
-  ];
-}
+-- the name of a file with a reference to it
+lent : Option (List ℕ) → Option (Bor (List ℕ))
+lent None = None
+lent (Some name) = Some (record { ref_ptr = (0, 0); now = name })
 
--- where neither stands, no directive does
-pub no_directive : (bytes : List ℕ) (from : ℕ) → ((to : ℕ) → to ≤ length bytes → IsPragma bytes from to → ⊥) → ((to line : ℕ) (file : Option (List ℕ)) → to ≤ length bytes → IsMarkerOf bytes from to line file → ⊥) → (kind : Kind) (past : ℕ) → past ≤ length bytes → IsDirectiveKind kind → Spells bytes from past kind → ⊥
-no_directive bytes from no_pragma no_marker kind past l is s = elim is [
-  | inl e ↦ let m = subst (Spells bytes from past) e s in no_marker past m.0 m.1 l m.2
-  | inr e ↦ no_pragma past l (subst (Spells bytes from past) e s)
+-- is that name
+lent_is : (file : Option (List ℕ)) → name_of (lent file) ≡ file
+unfolding lent
+lent_is None = refl
+lent_is (Some name) = refl
+
+-- where no marker was found, none stands
+pub no_marker : (bytes : List ℕ) (from : ℕ) → ((found : FoundMarker) → ¬ IsMarkerAt bytes from found) → (to line : ℕ) (file : Option (List ℕ)) → ¬ IsMarkerOf bytes from to line file
+no_marker bytes from none_found to line file m =
+    none_found (record { marker = record { line = line; file = lent file }; end = to })
+    (record { within = (line_end bytes to m.ends_line).within; marker = subst (IsMarkerOf bytes from to line) (sym (lent_is file)) m })
+
+-- where neither a pragma nor a marker stands, no such line does
+pub no_directive : (bytes : List ℕ) (from : ℕ) → ((to : ℕ) → ¬ ((to ≤ length bytes) × IsPragma bytes from to)) → ((found : FoundMarker) → ¬ IsMarkerAt bytes from found) → (line : FoundToken) → ¬ IsDirectiveAt bytes from line
+no_directive bytes from no_pragma none_found line h = elim h.is [
+  | inl e ↦ let m = subst (Spells bytes from line.end) e h.spelled in no_marker bytes from none_found line.end m.0 m.1 m.2
+  | inr e ↦ no_pragma line.end (h.within, subst (Spells bytes from line.end) e h.spelled)
 ]

@@ -3,6 +3,8 @@ pub mod Rows
 pub mod Parts
 pub mod Classes
 pub mod Tables
+pub mod Positions
+pub mod Finding
 pub mod Lines
 pub mod Places
 pub mod Numbers

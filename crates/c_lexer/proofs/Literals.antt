@@ -6,7 +6,7 @@ use Rattle.std.proofs.lemmas.Bool.Decides.{nat_tests}
 use Rattle.c_lexer.specs.Bytes.{line_feed, backslash, single_quote, double_quote, IsLetter, IsWordByte}
 use Rattle.c_lexer.specs.Lines.{OnOneLine}
 use Rattle.c_lexer.specs.Literals.{IsPlain, AreCharacters, none, plain, escaped, IsQuoted, char_prefixes, text_prefixes, IsLiteral, IsChar, IsText}
-use Rattle.c_lexer.specs.Scanning.{IsLiteralKind, IsOnlyLiteral}
+use Rattle.c_lexer.specs.Scanning.{IsLiteralKind}
 use Rattle.c_lexer.specs.Spelling.{Spells, IsName}
 use Rattle.c_lexer.specs.declared.token.Kind.{Kind}
 use Rattle.c_lexer.specs.declared.token.Kind.TheVariants.{Char, Text}
@@ -314,31 +314,39 @@ char_opened bytes from opening to kind o q k s =
           absurd (omega arith)
     ]
 
--- such a string literal is the only one there
-pub text_last : (bytes : List ℕ) (from opening closing : ℕ) → Opens bytes from opening → slice_index bytes opening ≡ double_quote → Contains text_prefixes (slice_range bytes from opening) → closing < length bytes → IsQuoted bytes double_quote opening closing → IsOnlyLiteral bytes from (closing + 1) Text
-text_last bytes from opening closing o q p l h = record {
-  is = inr refl;
-  within = omega arith;
-  spelled = record { opening = opening; closing = closing; forward = o.forward; prefix = p; quoted = h; end = refl };
-  only = λ other past w k s.
-      let found = text_opened bytes from opening past other o q k s in
-      let same = quoted_once bytes double_quote opening closing found.closing (λ e. omega arith) h found.quoted in
-      let end = found.end in
-      omega arith;
+-- such a string literal stands there
+pub text_here : (bytes : List ℕ) (from opening closing : ℕ) → Opens bytes from opening → Contains text_prefixes (slice_range bytes from opening) → IsQuoted bytes double_quote opening closing → IsText bytes from (closing + 1)
+text_here bytes from opening closing o p h = record { opening = opening; closing = closing; forward = o.forward; prefix = p; quoted = h; end = refl }
+
+-- and so does such a character constant
+pub char_here : (bytes : List ℕ) (from opening closing : ℕ) → Opens bytes from opening → Contains char_prefixes (slice_range bytes from opening) → opening + 1 < closing → IsQuoted bytes single_quote opening closing → IsChar bytes from (closing + 1)
+char_here bytes from opening closing o p some h = record {
+  literal = record { opening = opening; closing = closing; forward = o.forward; prefix = p; quoted = h; end = refl };
+  some = some;
 }
 
--- and so is such a character constant
-pub char_last : (bytes : List ℕ) (from opening closing : ℕ) → Opens bytes from opening → slice_index bytes opening ≡ single_quote → Contains char_prefixes (slice_range bytes from opening) → closing < length bytes → opening + 1 < closing → IsQuoted bytes single_quote opening closing → IsOnlyLiteral bytes from (closing + 1) Char
-char_last bytes from opening closing o q p l some h = record {
-  is = inl refl;
-  within = omega arith;
-  spelled = record {
-    literal = record { opening = opening; closing = closing; forward = o.forward; prefix = p; quoted = h; end = refl };
-    some = some;
-  };
-  only = λ other past w k s.
-      let found = (char_opened bytes from opening past other o q k s).0 in
-      let same = quoted_once bytes single_quote opening closing found.closing (λ e. omega arith) h found.quoted in
-      let end = found.end in
-      omega arith;
-}
+-- the quotes of a literal open behind its prefix
+literal_opens_at : (prefixes : List (List ℕ)) (quote : ℕ) (bytes : List ℕ) (from to : ℕ) → IsForm prefixes quote → (l : IsLiteral prefixes quote bytes from to) → Opens bytes from l.opening
+literal_opens_at prefixes quote bytes from to f l =
+    opens_at bytes from l.opening l.forward (literal_before prefixes quote bytes from to f l).each (literal_opens prefixes quote bytes from to f l)
+
+-- literals from one offset end at one
+pub literal_once : (bytes : List ℕ) (from p q : ℕ) (kind other : Kind) → IsLiteralKind kind → Spells bytes from p kind → IsLiteralKind other → Spells bytes from q other → p ≡ q
+literal_once bytes from p q kind other is s k t =
+    elim (spelled_literal bytes from p kind is s) [
+      | inl char ↦
+          let l = char.literal in
+          let opens = literal_opens_at char_prefixes single_quote bytes from p char_form l in
+          let found = (char_opened bytes from l.opening q other opens l.quoted.opens k t).0 in
+          let same = quoted_once bytes single_quote l.opening l.closing found.closing (λ e. omega arith) l.quoted found.quoted in
+          let end = l.end in
+          let last = found.end in
+          omega arith
+      | inr l ↦
+          let opens = literal_opens_at text_prefixes double_quote bytes from p text_form l in
+          let found = text_opened bytes from l.opening q other opens l.quoted.opens k t in
+          let same = quoted_once bytes double_quote l.opening l.closing found.closing (λ e. omega arith) l.quoted found.quoted in
+          let end = l.end in
+          let last = found.end in
+          omega arith
+    ]

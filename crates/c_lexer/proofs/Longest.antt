@@ -1,5 +1,5 @@
 -- Which token is the longest at a place.
-use Rattle.std.proofs.Common.{◌≡◌, ℕ, ◌+◌, ◌-◌, ◌<◌, ◌≤◌, ◌⊎◌, List, Option, Some, None, MatchOption, length, slice_range, slice_index, refl, arith, inl, inr}
+use Rattle.std.proofs.Common.{◌≡◌, ℕ, ◌+◌, ◌-◌, ◌<◌, ◌≤◌, ◌⊎◌, List, Option, Some, None, length, slice_range, slice_index, refl, arith, inl, inr}
 use Rattle.std.proofs.lemmas.Bool.{cases_order}
 use Rattle.c_lexer.specs.Bytes.{IsLetter, IsWordByte, number_sign, single_quote, double_quote}
 use Rattle.c_lexer.specs.Lines.{OnOneLine}
@@ -7,7 +7,11 @@ use Rattle.c_lexer.specs.Marks.{IsMarkAt}
 use Rattle.c_lexer.specs.Numbers.{BeginsNumber, IsNumber}
 use Rattle.c_lexer.specs.Spelling.{Spells, IsName}
 use Rattle.c_lexer.specs.Reading.{IsLongest, BeginsNoToken}
-use Rattle.c_lexer.specs.Scanning.{IsLiteralKind, IsOnlyLiteral, IsDirectiveKind, IsOnlyDirective}
+use Rattle.c_lexer.specs.Finds.{Finds}
+use Rattle.c_lexer.specs.Scanning.{IsLiteralKind, IsLiteralAt, IsDirectiveKind, IsDirectiveAt, IsLongestToken, IsLongestMark}
+use Rattle.c_lexer.specs.declared.token.FoundToken.{FoundToken}
+use Rattle.c_lexer.specs.declared.mark.FoundMark.{FoundMark}
+use Rattle.c_lexer.proofs.Finding.{none_of_last}
 use Rattle.c_lexer.specs.declared.token.Kind.{Kind}
 use Rattle.c_lexer.specs.declared.token.Kind.TheVariants.{Word, Key, Number, Char, Text, Mark, Line, Pragma}
 use Rattle.c_lexer.proofs.Parts.{part_length, part_at, part_place, part_first}
@@ -15,8 +19,8 @@ use Rattle.c_lexer.proofs.Tables.{keyword_name}
 use Rattle.c_lexer.proofs.Marks.{mark_reach, mark_on_one_line}
 use Rattle.c_lexer.proofs.Numbers.{number_on_one_line}
 use Rattle.c_lexer.specs.Literals.{IsLiteral}
-use Rattle.c_lexer.proofs.Literals.{IsForm, char_form, text_form, literal_before, literal_on_one_line, quote_no_word_byte, spelled_literal}
-use Rattle.c_lexer.proofs.Directives.{marker_on_one_line, pragma_on_one_line}
+use Rattle.c_lexer.proofs.Literals.{IsForm, char_form, text_form, literal_before, literal_on_one_line, literal_last, literal_once, quote_no_word_byte, spelled_literal, characters_forward}
+use Rattle.c_lexer.proofs.Directives.{marker_on_one_line, pragma_on_one_line, directive_forward, directive_once}
 use Rattle.c_lexer.proofs.Firsts.{first_of_kind}
 
 -- ---- Lines
@@ -89,15 +93,33 @@ no_prefixed bytes from n some each ends none kind past is s = elim (spelled_lite
 
 -- ---- Tokens by their first byte
 
+-- a literal ends behind the quote at the end of the run of word bytes with which it begins
+behind_quote : (prefixes : List (List ℕ)) (quote : ℕ) (bytes : List ℕ) (from n to : ℕ) → IsForm prefixes quote → from < n → ((i : ℕ) → from ≤ i → i < n → IsWordByte (slice_index bytes i)) → (n < length bytes → ¬ IsWordByte (slice_index bytes n)) → IsLiteral prefixes quote bytes from to → n + 1 < to
+behind_quote prefixes quote bytes from n to form some each ends l =
+    let before = literal_before prefixes quote bytes from to form l in
+    elim (cases_order l.opening n) [
+      | inl e ↦ let f = characters_forward bytes quote (l.opening + 1) l.closing l.quoted.characters in let end = l.end in omega arith
+      | inr (inl h) ↦ absurd (quote_no_word_byte quote form.quote_is (rw l.quoted.opens at (each l.opening before.forward h)))
+      | inr (inr h) ↦ absurd (ends (omega (arith, before.inside)) (before.each n (omega arith) h))
+    ]
+
+-- so does one of either kind
+behind_prefix : (bytes : List ℕ) (from n to : ℕ) (kind : Kind) → from < n → ((i : ℕ) → from ≤ i → i < n → IsWordByte (slice_index bytes i)) → (n < length bytes → ¬ IsWordByte (slice_index bytes n)) → IsLiteralKind kind → Spells bytes from to kind → n + 1 < to
+behind_prefix bytes from n to kind some each ends is s = elim (spelled_literal bytes from to kind is s) [
+  | inl c ↦ behind_quote _ _ bytes from n to char_form some each ends c.literal
+  | inr t ↦ behind_quote _ _ bytes from n to text_form some each ends t
+]
+
 -- a literal that begins with a letter is the longest token there
-pub longest_prefixed : (bytes : List ℕ) (from n to : ℕ) (kind : Kind) → IsLetter (slice_index bytes from) → from < n → (n < length bytes → IsWordByte (slice_index bytes n) → ⊥) → n + 1 < to → IsOnlyLiteral bytes from to kind → IsLongest bytes from to kind
-longest_prefixed bytes from n to kind letter forward ends behind h =
-    longest_at_letter bytes from to n letter (omega arith) (omega arith) ends (λ other past a b is s. let same = h.only other past b is s in omega arith) kind (omega arith) h.within h.spelled
+pub longest_prefixed : (bytes : List ℕ) (from n : ℕ) (token : FoundToken) → IsLetter (slice_index bytes from) → from < n → ((i : ℕ) → from ≤ i → i < n → IsWordByte (slice_index bytes i)) → (n < length bytes → ¬ IsWordByte (slice_index bytes n)) → IsLiteralAt bytes from token → IsLongestToken bytes from token
+longest_prefixed bytes from n token letter forward each ends h =
+    let behind = behind_prefix bytes from n token.end token.kind forward each ends h.is h.spelled in
+    longest_at_letter bytes from token.end n letter (omega arith) (omega arith) ends (λ other past a b is s. let same = literal_once bytes from token.end past token.kind other h.is h.spelled is s in omega arith) token.kind (omega arith) h.within h.spelled
 
 -- a name is the longest token where no literal begins with it
-pub longest_name : (bytes : List ℕ) (from to : ℕ) (kind : Kind) → IsLetter (slice_index bytes from) → from < to → to ≤ length bytes → (to < length bytes → IsWordByte (slice_index bytes to) → ⊥) → ((other : Kind) (past : ℕ) → past ≤ length bytes → IsLiteralKind other → Spells bytes from past other → ⊥) → Spells bytes from to kind → IsLongest bytes from to kind
+pub longest_name : (bytes : List ℕ) (from to : ℕ) (kind : Kind) → IsLetter (slice_index bytes from) → from < to → to ≤ length bytes → (to < length bytes → IsWordByte (slice_index bytes to) → ⊥) → ((literal : FoundToken) → ¬ IsLiteralAt bytes from literal) → Spells bytes from to kind → IsLongest bytes from to kind
 longest_name bytes from to kind letter some within ends none s =
-    longest_at_letter bytes from to to letter (omega arith) (omega arith) ends (λ other past a b is. none other past b is) kind some within s
+    longest_at_letter bytes from to to letter (omega arith) (omega arith) ends (λ other past a b is t. none (record { kind = other; end = past }) (record { is = is; within = b; spelled = t })) kind some within s
 
 -- a run of word bytes that begins with a letter is a name
 pub run_name : (bytes : List ℕ) (from to : ℕ) → from < to → to ≤ length bytes → IsLetter (slice_index bytes from) → ((i : ℕ) → from ≤ i → i < to → IsWordByte (slice_index bytes i)) → IsName (slice_range bytes from to)
@@ -140,14 +162,23 @@ at_quote bytes from quote Line past h w t = let f = first_of_kind bytes from pas
 at_quote bytes from quote Pragma past h w t = let f = first_of_kind bytes from past Pragma h w t in absurd (grind arith)
 
 -- what stands at a quote is the literal that was found
-pub quoted_token : (bytes : List ℕ) (from : ℕ) (found : Option (Kind × ℕ)) → (slice_index bytes from ≡ single_quote) ⊎ (slice_index bytes from ≡ double_quote) → MatchOption found ((kind : Kind) (past : ℕ) → past ≤ length bytes → IsLiteralKind kind → Spells bytes from past kind → ⊥) (λ t. (from + 1 < t.1) × IsOnlyLiteral bytes from t.1 t.0) → MatchOption found (BeginsNoToken bytes from) (λ t. IsLongest bytes from t.1 t.0)
-quoted_token bytes from None quote none = λ kind past h w s. none kind past w (at_quote bytes from quote kind past h w s) s
-quoted_token bytes from (Some t) quote (some, last) = record {
-  some = omega arith;
-  within = last.within;
-  spelled = last.spelled;
-  longest = λ kind past h w s. let l : from < past = omega arith in let same = last.only kind past w (at_quote bytes from quote kind past l w s) s in omega arith;
+pub quoted_token : (bytes : List ℕ) (from : ℕ) (found : Option FoundToken) → (slice_index bytes from ≡ single_quote) ⊎ (slice_index bytes from ≡ double_quote) → Finds (IsLiteralAt bytes from) found → Finds (IsLongestToken bytes from) found
+quoted_token bytes from None quote none = λ token h. none token (record { is = at_quote bytes from quote token.kind token.end h.some h.within h.spelled; within = h.within; spelled = h.spelled })
+quoted_token bytes from (Some token) quote found = record {
+  some = literal_forward bytes from token.end token.kind found.is found.spelled;
+  within = found.within;
+  spelled = found.spelled;
+  longest = λ kind past h w s.
+      let some = literal_forward bytes from token.end token.kind found.is found.spelled in
+      let same = literal_once bytes from token.end past token.kind kind found.is found.spelled (at_quote bytes from quote kind past (omega arith) w s) s in
+      omega arith;
 }
+  where
+    literal_forward : (bytes : List ℕ) (from to : ℕ) (kind : Kind) → IsLiteralKind kind → Spells bytes from to kind → from < to
+    literal_forward bytes from to kind is s = elim (spelled_literal bytes from to kind is s) [
+      | inl c ↦ let last = literal_last _ _ bytes from to c.literal in let some = last.some in omega arith
+      | inr t ↦ let last = literal_last _ _ bytes from to t in let some = last.some in omega arith
+    ]
 
 -- a `#` begins only whole lines
 at_sign : (bytes : List ℕ) (from : ℕ) → slice_index bytes from ≡ number_sign → (kind : Kind) (past : ℕ) → from < past → past ≤ length bytes → Spells bytes from past kind → IsDirectiveKind kind
@@ -161,13 +192,16 @@ at_sign bytes from sign Line past h w t = inl refl
 at_sign bytes from sign Pragma past h w t = inr refl
 
 -- what stands at a `#` is the line that was found
-pub signed_token : (bytes : List ℕ) (from : ℕ) (found : Option (Kind × ℕ)) → slice_index bytes from ≡ number_sign → MatchOption found ((kind : Kind) (past : ℕ) → past ≤ length bytes → IsDirectiveKind kind → Spells bytes from past kind → ⊥) (λ t. (from < t.1) × IsOnlyDirective bytes from t.1 t.0) → MatchOption found (BeginsNoToken bytes from) (λ t. IsLongest bytes from t.1 t.0)
-signed_token bytes from None sign none = λ kind past h w s. none kind past w (at_sign bytes from sign kind past h w s) s
-signed_token bytes from (Some t) sign (some, last) = record {
-  some = some;
-  within = last.within;
-  spelled = last.spelled;
-  longest = λ kind past h w s. let l : from < past = omega arith in let same = last.only kind past w (at_sign bytes from sign kind past l w s) s in omega arith;
+pub signed_token : (bytes : List ℕ) (from : ℕ) (found : Option FoundToken) → slice_index bytes from ≡ number_sign → Finds (IsDirectiveAt bytes from) found → Finds (IsLongestToken bytes from) found
+signed_token bytes from None sign none = λ token h. none token (record { is = at_sign bytes from sign token.kind token.end h.some h.within h.spelled; within = h.within; spelled = h.spelled })
+signed_token bytes from (Some token) sign found = record {
+  some = directive_forward bytes from token.end token.kind found.is found.spelled;
+  within = found.within;
+  spelled = found.spelled;
+  longest = λ kind past h w s.
+      let some = directive_forward bytes from token.end token.kind found.is found.spelled in
+      let same = directive_once bytes from token.end past token.kind kind found.is found.spelled (at_sign bytes from sign kind past (omega arith) w s) s in
+      omega arith;
 }
 
 -- a byte that begins nothing else
@@ -188,3 +222,27 @@ at_mark bytes from here Text past h w t = absurd (elim (first_of_kind bytes from
 at_mark bytes from here (Mark k) past h w t = (k, t)
 at_mark bytes from here Line past h w t = absurd (here.no_sign (first_of_kind bytes from past Line h w t))
 at_mark bytes from here Pragma past h w t = absurd (here.no_sign (first_of_kind bytes from past Pragma h w t))
+
+-- where no token is the longest, none begins
+pub begins_none : (bytes : List ℕ) (from : ℕ) → ((token : FoundToken) → ¬ IsLongestToken bytes from token) → BeginsNoToken bytes from
+begins_none bytes from none kind to some within spelled =
+    none_of_last (λ past. (from < past) × ((other : Kind) × Spells bytes from past other)) (length bytes)
+    (λ past inside s longest. none (record { kind = s.1.0; end = past }) (record {
+      some = s.0;
+      within = inside;
+      spelled = s.1.1;
+      longest = λ other end more room t. let first = s.0 in longest end more room (omega arith, (other, t));
+    }))
+    to within (some, (kind, spelled))
+
+-- and likewise a mark
+pub begins_no_mark : (bytes : List ℕ) (from : ℕ) → ((mark : FoundMark) → ¬ IsLongestMark bytes from mark) → (number to : ℕ) → from < to → to ≤ length bytes → ¬ IsMarkAt bytes from to number
+begins_no_mark bytes from none number to some within spelled =
+    none_of_last (λ past. (from < past) × ((other : ℕ) × IsMarkAt bytes from past other)) (length bytes)
+    (λ past inside s longest. none (record { number = s.1.0; end = past }) (record {
+      some = s.0;
+      within = inside;
+      spelled = s.1.1;
+      longest = λ other end more room t. let first = s.0 in longest end more room (omega arith, (other, t));
+    }))
+    to within (some, (number, spelled))

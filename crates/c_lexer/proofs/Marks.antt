@@ -6,19 +6,20 @@ use Rattle.std.proofs.lemmas.Bool.Decides.{nat_tests}
 use Rattle.std.proofs.lemmas.List.Sums.{AllPass-from_list_all}
 use Rattle.c_lexer.specs.Bytes.{line_feed, double_quote, number_sign, single_quote, IsLetter, IsDigit, IsBlank}
 use Rattle.c_lexer.specs.Lines.{OnOneLine}
+use Rattle.c_lexer.specs.Entries.{numbers_of}
 use Rattle.c_lexer.specs.Marks.{marks, IsMark, IsMarkAt}
 use Rattle.c_lexer.specs.Scanning.{IsSecond}
 use Rattle.c_lexer.proofs.Parts.{part_length, part_at, part_place}
 use Rattle.c_lexer.proofs.Tables.{agree, one_number, row_passes}
 
 -- the rows of marks of one spelling have one number
-marks_agree : agree marks ≡ true
+marks_agree : agree (numbers_of marks) ≡ true
 unfolding marks
 marks_agree = refl
 
 -- a mark has one number
 pub mark_once : (text : List ℕ) (k j : ℕ) → IsMark text k → IsMark text j → k ≡ j
-mark_once = one_number marks marks_agree
+mark_once = one_number (numbers_of marks) marks_agree
 
 -- a byte of a mark ends no line and is no quote
 pub record IsInMark (byte : ℕ) : Type 0 where
@@ -82,7 +83,7 @@ is_mark_text text =
     && (nat_le (length text) 1 || is_second (slice_index text 1)))
 
 -- each mark passes the test
-all_marks : list_all (λ row. is_mark_text row.0) marks ≡ true
+all_marks : list_all (λ row. is_mark_text row.0) (numbers_of marks) ≡ true
 unfolding marks
 all_marks = refl
 
@@ -111,7 +112,7 @@ mark_text_is text h =
 
 -- a mark of the list looks so
 pub mark_text : (text : List ℕ) (number : ℕ) → IsMark text number → IsMarkText text
-mark_text text number h = mark_text_is text (row_passes (λ row. is_mark_text row.0) marks all_marks (text, number) h)
+mark_text text number h = mark_text_is text (row_passes (λ row. is_mark_text row.0) (numbers_of marks) all_marks (text, number) h)
 
 -- a mark stands on one line
 pub mark_on_one_line : (bytes : List ℕ) (from to number : ℕ) → IsMarkAt bytes from to number → to ≤ length bytes → OnOneLine bytes from to

@@ -1,6 +1,7 @@
 -- Each text has a reading.
 use Rattle.std.proofs.Common.{◌≡◌, ℕ, suc, zero, ◌+◌, ◌-◌, ◌<◌, ◌≤◌, ◌⊎◌, List, [], ◌∷◌, length, slice_range, refl, arith, inl, inr}
 use Rattle.std.proofs.lemmas.Bool.{cases_lt}
+use Rattle.c_lexer.specs.Entries.{numbers_of}
 use Rattle.c_lexer.specs.Keywords.{keywords, IsKeyword}
 use Rattle.c_lexer.specs.Numbers.{IsNumber}
 use Rattle.c_lexer.specs.Literals.{IsChar, IsText}
@@ -29,7 +30,7 @@ word_or_not : (text : List ℕ) → Decided (IsWord text)
 word_or_not text =
     decided_by _ (IsWord text)
     (λ w. record { name = w.0; no_keyword = λ number k. w.1 (number, k) }) (λ w. (w.name, λ k. w.no_keyword k.0 k.1))
-    (both_or_not _ _ (name_or_not text) (λ name. no_or_not _ (row_or_not keywords text)))
+    (both_or_not _ _ (name_or_not text) (λ name. no_or_not _ (row_or_not (numbers_of keywords) text)))
 
 -- the forms of a token
 abbrev HasForm : List ℕ → ℕ → ℕ → Type 0
@@ -64,7 +65,7 @@ form_of bytes from to Pragma s = inr (inr (inr (inr (inr (inr (inr s))))))
 spelled_or_not : (bytes : List ℕ) (from to : ℕ) → Decided ((kind : Kind) × Spells bytes from to kind)
 spelled_or_not bytes from to =
     decided_by (HasForm bytes from to) ((kind : Kind) × Spells bytes from to kind) (of_form bytes from to) (λ s. form_of bytes from to s.0 s.1)
-    (either_or_not _ _ (word_or_not (slice_range bytes from to)) (either_or_not _ _ (row_or_not keywords (slice_range bytes from to))
+    (either_or_not _ _ (word_or_not (slice_range bytes from to)) (either_or_not _ _ (row_or_not (numbers_of keywords) (slice_range bytes from to))
     (either_or_not _ _ (number_or_not bytes from to) (either_or_not _ _ (char_or_not bytes from to) (either_or_not _ _ (text_or_not bytes from to)
     (either_or_not _ _ (mark_or_not bytes from to) (either_or_not _ _ (marker_or_not bytes from to) (pragma_or_not bytes from to))))))))
 

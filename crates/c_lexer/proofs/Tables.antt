@@ -4,6 +4,7 @@ use Rattle.std.specs.List.{Contains, list_all}
 use Rattle.std.proofs.lemmas.Bool.{eqb-true}
 use Rattle.std.proofs.lemmas.List.Sums.{AllPass-from_list_all}
 use Rattle.std.proofs.lemmas.Slice.Eq.{bytes_eq-Decides}
+use Rattle.c_lexer.specs.Entries.{numbers_of}
 use Rattle.c_lexer.specs.Keywords.{keywords, IsKeyword}
 use Rattle.c_lexer.specs.Spelling.{IsName}
 use Rattle.c_lexer.proofs.Classes.{is_name, name_is}
@@ -13,13 +14,13 @@ pub row_passes : {A : Type 0} (test : A → Bool) (rows : List A) → list_all t
 row_passes test rows h row c = rw c.2 at (AllPass-from_list_all test rows h c.0 row c.1)
 
 -- each keyword passes the test of a name
-all_names : list_all (λ row. is_name row.0) keywords ≡ true
+all_names : list_all (λ row. is_name row.0) (numbers_of keywords) ≡ true
 unfolding keywords
 all_names = refl
 
 -- a keyword is a name
 pub keyword_name : (text : List ℕ) (number : ℕ) → IsKeyword text number → IsName text
-keyword_name text number h = name_is text (row_passes (λ row. is_name row.0) keywords all_names (text, number) h)
+keyword_name text number h = name_is text (row_passes (λ row. is_name row.0) (numbers_of keywords) all_names (text, number) h)
 
 -- whether rows of one word have one number
 abbrev pub agree : List (List ℕ × ℕ) → Bool
@@ -35,10 +36,10 @@ one_number rows h text k j a b =
     eqb-true k j (rw same at pair)
 
 -- the rows of keywords do
-keywords_agree : agree keywords ≡ true
+keywords_agree : agree (numbers_of keywords) ≡ true
 unfolding keywords
 keywords_agree = refl
 
 -- a keyword has one number
 pub keyword_once : (text : List ℕ) (k j : ℕ) → IsKeyword text k → IsKeyword text j → k ≡ j
-keyword_once = one_number keywords keywords_agree
+keyword_once = one_number (numbers_of keywords) keywords_agree

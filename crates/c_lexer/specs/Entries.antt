@@ -2,7 +2,6 @@
 
 use Rattle.std.specs.Prelude.{ℕ, ◌≡◌, Bool, true, false, List, Some, codes, map, slice_get}
 use Prim.Native.String.{String}
-use Rattle.std.specs.List.{Contains}
 
 -- A spelling with its number, and whether it is an alternative one.
 pub record Entry : Type 0 where
@@ -22,10 +21,11 @@ alternative text number = record { text = codes text; number = number; is_altern
 abbrev pub numbers_of : List Entry → List (List ℕ × ℕ)
 numbers_of entries = map (λ entry. (entry.text, entry.number)) entries
 
--- The number of a spelling is its position in the list, from 0, and that of an alternative one is the
--- position of what it stands for.
+-- The number of a spelling is its position in the list, from 0. At the number of an alternative one stands
+-- a spelling that is none.
 pub record HavePositions (entries : List Entry) : Type 0 where
   pub spellings : (at : ℕ) (entry : Entry) → slice_get entries at ≡ Some entry →
       entry.is_alternative ≡ false → entry.number ≡ at
-  pub alternatives : (entry : Entry) → Contains entries entry → entry.is_alternative ≡ true →
-      (text : List ℕ) × Contains entries (record { text = text; number = entry.number; is_alternative = false })
+  pub alternatives : (at : ℕ) (entry : Entry) → slice_get entries at ≡ Some entry →
+      entry.is_alternative ≡ true →
+      (other : Entry) × (slice_get entries entry.number ≡ Some other) × (other.is_alternative ≡ false)

@@ -62,11 +62,14 @@ Prints-then {o} {p} {q} {a} {b} first second = record {
 -- nothing was printed
 pub Prints-none : (o : Output) → Prints o o []
 Prints-none o = record {
-  no_fault = λ ends. (ends, record {
-    gone = [];
-    taken = Takes-none (sink_of o);
-    kept = sym (append-nil (printer_of o).bytes);
-  });
+  no_fault = λ ends. (
+    ends,
+    record {
+      gone = [];
+      taken = Takes-none (sink_of o);
+      kept = sym (append-nil (printer_of o).bytes);
+    },
+  );
   fault = λ ends begins. absurd (true≢false (sym ends ∙ begins));
   after_fault = λ begins. (begins, refl);
 }

@@ -1,4 +1,5 @@
--- What a printer does with a text: bytes wait in a fixed buffer, and go to the sink when it is full.
+-- What a printer does with a text: bytes wait in a fixed buffer, and go to the sink when it is
+-- full.
 use Rattle.std.specs.Prelude.{ℕ, ◌≡◌, Bool, true, false, List, ◌++◌}
 use Rattle.joern_io.specs.Sinks.{SinkState, Takes, TakesPrefix}
 

@@ -4,7 +4,7 @@ use Rattle.cpg_schema.specs.Graph.{PlainNode, PlainEdge}
 use Rattle.graph_text.specs.declared.views.NodeView.{NodeView}
 use Rattle.graph_text.specs.declared.views.EdgeView.{EdgeView}
 
--- a node, with what its texts are
+-- A node, with what its texts are.
 abbrev pub plain_node : NodeView → PlainNode
 plain_node view = record {
   label = view.label;
@@ -19,7 +19,7 @@ plain_node view = record {
   linkage = option_copied view.linkage;
 }
 
--- an edge, likewise
+-- An edge, with what its text is.
 abbrev pub plain_edge : EdgeView → PlainEdge
 plain_edge view = record {
   from = view.from;

@@ -1,7 +1,8 @@
 //! The lines of a graph: its nodes, and then its edges.
-ghost use Rattle.std.specs.Prelude.{◌≡◌, ◌++◌, flat_map, OnOk, OnErr};
+ghost use Rattle.std.specs.Prelude.{◌≡◌, flat_map, OnOk, OnErr};
 ghost use Rattle.joern_io.specs.Sinks.{Takes, TakesPrefix};
-ghost use Rattle.cpg_schema.specs.Lines.{node_line, node_lines, edge_line, variable_text, graph_lines};
+ghost use Rattle.cpg_schema.specs.Lines.{graph_lines, node_line, node_lines};
+ghost use Rattle.cpg_schema.specs.Lines.{edge_line, variable_text};
 ghost use Rattle.cpg_schema.specs.Graph.{plain_graph};
 ghost use Rattle.cpg_schema.specs.Order.{in_order};
 ghost use Rattle.graph_text.specs.Printing.{Prints};

@@ -1,5 +1,6 @@
 //! A fixed buffer before a sink.
-ghost use Rattle.std.specs.Prelude.{◌≡◌, ◌+◌, ◌≤◌, ◌++◌, [], true, false, length, IsErr, OnOk, OnErr};
+ghost use Rattle.std.specs.Prelude.{◌≡◌, ◌+◌, ◌≤◌, ◌++◌, [], true, false, length};
+ghost use Rattle.std.specs.Prelude.{IsErr, OnOk, OnErr};
 ghost use Rattle.joern_io.specs.Sinks.{Takes, TakesPrefix};
 ghost use Rattle.graph_text.specs.Printing.{Prints};
 
@@ -68,7 +69,7 @@ impl Printer {
 
     /// Has a text wait for which there is room.
     fn keep(&mut self, text: &[u8])
-        requires { length self.old.bytes + length text.now ≤ ROOM }
+        requires fits { length self.old.bytes + length text.now ≤ ROOM }
         ensures bytes { self.new.bytes ≡ self.old.bytes ++ text.now }
         ensures failed { self.new.failed ≡ self.old.failed }
     {
@@ -79,7 +80,7 @@ impl Printer {
 
     /// Writes a text past the buffer, in which nothing waits.
     fn pass<S: Sink>(&mut self, sink: &mut S, text: &[u8])
-        requires { self.old.bytes ≡ [] }
+        requires nothing { self.old.bytes ≡ [] }
         ensures { Prints (S.state sink.old, self.old) (S.state sink.new, self.new) text.now }
     {
         if !self.failed {

@@ -16,7 +16,7 @@ fn is_plain_byte(byte: u8) -> bool
 
 /// One of `0` to `9` and `A` to `F`.
 fn hex(n: u8) -> u8
-    requires { n < 16 }
+    requires small { n < 16 }
     ensures { result ≡ hex_digit n }
 {
     if n < 10 { b'0' + n } else { b'A' + (n - 10) }
@@ -52,7 +52,7 @@ impl Printer {
     /// Prints a front of a value: the plain bytes there and the next byte. Returns how many bytes
     /// these are.
     fn front<S: Sink>(&mut self, sink: &mut S, bytes: &[u8]) -> usize
-        requires { 0 < length bytes.now }
+        requires some { 0 < length bytes.now }
         ensures progress { 0 < result }
         ensures within { result ≤ length bytes.now }
         ensures printed { Prints (S.state sink.old, self.old) (S.state sink.new, self.new)
@@ -69,7 +69,7 @@ impl Printer {
 
     /// Prints a byte that is not plain.
     fn escape<S: Sink>(&mut self, sink: &mut S, byte: u8)
-        requires { is_plain byte ≡ false }
+        requires not_plain { is_plain byte ≡ false }
         ensures { Prints (S.state sink.old, self.old) (S.state sink.new, self.new) (escape byte) }
     {
         self.text(sink, &[b'%', hex(byte / 16), hex(byte % 16)]);

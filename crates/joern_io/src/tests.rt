@@ -33,7 +33,11 @@ fn a_file_is_read_whole_or_the_stop_has_its_cause(rt: HostRuntime) -> Result<(),
             Err(stop) => Some(stop),
         };
         assert_eq!(rt; stop, want, "{name} within {limit}, call {fails} fails");
-        assert_eq!(rt; (shelf.faults(), shelf.calls()), (faults, calls), "{name} within {limit}");
+        assert_eq!(rt;
+            (shelf.faults(), shelf.calls()),
+            (faults, calls),
+            "{name} within {limit}"
+        );
     }
     Ok(())
 }

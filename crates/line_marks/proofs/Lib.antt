@@ -1,7 +1,10 @@
 pub mod Groups
 pub mod Dropping
 pub mod Deciding
+pub mod ItemsAt
+pub mod Rising
 pub mod Names
+pub mod Mentioning
 pub mod OnePlace
 pub mod Tokens
 pub mod Walk

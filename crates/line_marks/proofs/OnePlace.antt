@@ -5,6 +5,7 @@ use Rattle.std.proofs.lemmas.Option.{get_or_from_slice_get, slice_get_within}
 use Rattle.c_lexer.specs.declared.token.Token.{Token}
 use Rattle.c_lexer.proofs.Directives.{marker_once}
 use Rattle.line_marks.specs.declared.place.Place.{Place}
+use Rattle.line_marks.proofs.Names.{contains_at, get_push}
 use Rattle.line_marks.specs.Presumed.{AddsNames, ArePlacesOf, IsPlaceOf, Presumed, Said, Says, first_presumption, names_said, presumed_places}
 
 same_said : (s u : Said) → s.line ≡ u.line → s.file ≡ u.file → s ≡ u
@@ -44,18 +45,6 @@ adds_once a b c xs (AddsNames.new {names = ns} name fresh rest) (AddsNames.new n
 -- no name stands at two positions
 record Once (files : List (List ℕ)) : Type 0 where
   at : (i j : ℕ) (x : List ℕ) → slice_get files i ≡ Some x → slice_get files j ≡ Some x → i ≡ j
-
-get_push : (a : List (List ℕ)) (y : List ℕ) (i : ℕ) (x : List ℕ) → slice_get (a ++ y ∷ []) i ≡ Some x → (slice_get a i ≡ Some x) ⊎ ((i ≡ length a) × (x ≡ y))
-get_push [] y zero x h = inr (refl, cc)
-get_push [] y (suc i) x h = absurd (cc)
-get_push (z ∷ a) y zero x h = inl h
-get_push (z ∷ a) y (suc i) x h = elim (get_push a y i x h) [
-  | inl there ↦ inl there
-  | inr last ↦ inr (let e = last.0 in omega arith, last.1)
-]
-
-contains_at : (a : List (List ℕ)) (i : ℕ) (x : List ℕ) → slice_get a i ≡ Some x → Contains a x
-contains_at a i x h = (i, slice_get_within a i x h, get_or_from_slice_get a i x x h)
 
 once_push : (a : List (List ℕ)) (y : List ℕ) → Once a → (Contains a y → ⊥) → Once (a ++ y ∷ [])
 once_push a y once fresh = record {

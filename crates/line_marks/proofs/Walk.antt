@@ -8,7 +8,8 @@ use Rattle.c_lexer.specs.declared.token.Token.{Token}
 use Rattle.c_lexer.specs.declared.token.Kind.TheVariants.{Line}
 use Rattle.line_marks.specs.declared.place.Place.{Place}
 use Rattle.line_marks.specs.declared.place.Presumption.{Presumption as Kept}
-use Rattle.line_marks.specs.Naming.{IsBehind}
+use Rattle.line_marks.specs.Naming.{IsBehind, names_of}
+use Rattle.line_marks.specs.declared.file_names.FileNames.{FileNames}
 use Rattle.line_marks.specs.Presumed.{AddsNames, IsPlaceOf, Presumed, Presumption, Said, Says, behind, first_presumption, name_said, names_said, presumed_at, presumed_places}
 use Rattle.line_marks.proofs.Names.{adds_append, adds_keep}
 
@@ -112,14 +113,14 @@ file_behind files more names before after None old added here same = ap (slice_g
 file_behind files more names before after (Some name) old added here found = found
 
 -- one more token that is a line marker
-pub walked_marker : (bytes name : List ℕ) (tokens : List Token) (places : List Place) (files more : List (List ℕ)) (before after : Kept) (token : Token) (place : Place) →
-    Walked bytes name tokens places files before.file before.from before.line → token.kind ≡ Line → IsBehind bytes token files more before after →
+pub walked_marker : (bytes name : List ℕ) (tokens : List Token) (places : List Place) (files more : FileNames) (before after : Kept) (token : Token) (place : Place) →
+    Walked bytes name tokens places (names_of files) before.file before.from before.line → token.kind ≡ Line → IsBehind bytes token files more before after →
     place.file ≡ before.file → place.line ≡ before.line + (token.line - before.from) →
-    Walked bytes name (tokens ++ token ∷ []) (places ++ place ∷ []) more after.file after.from after.line
+    Walked bytes name (tokens ++ token ∷ []) (places ++ place ∷ []) (names_of more) after.file after.from after.line
 walked_marker bytes name tokens places files more before after token place w marker b at_file at_line =
     let p = behind_all (first_presumption name) tokens w.says in
-    walked_more bytes name tokens places files more before.file before.from before.line after.file after.from after.line token (Some b.said) place w (marker, b.marker) b.added at_file at_line
-    (file_behind files more (name_said (Some b.said)) before.file after.file b.said.file p.file b.added w.file_is b.file) b.from b.line
+    walked_more bytes name tokens places (names_of files) (names_of more) before.file before.from before.line after.file after.from after.line token (Some b.said) place w (marker, b.marker) b.added at_file at_line
+    (file_behind (names_of files) (names_of more) (name_said (Some b.said)) before.file after.file b.said.file p.file b.added w.file_is b.file) b.from b.line
 
 -- the same, of other names for the parts
 pub walked_as : (bytes name : List ℕ) (tokens ts : List Token) (places ps : List Place) (files fs : List (List ℕ)) (before after : Kept) →

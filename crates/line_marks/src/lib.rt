@@ -2,6 +2,7 @@
 #![tactic(auto)]
 
 mod balance;
+mod file_names;
 mod kept;
 pub mod laws;
 mod place;

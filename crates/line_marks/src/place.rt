@@ -3,15 +3,14 @@
 //! A line marker says of the line after it which line of which file it is. So a node has the line
 //! that the programmer wrote, and not the one where the preprocessor put it.
 
-ghost use Rattle.std.specs.Prelude.{ℕ, ◌≡◌, ◌+◌, ◌-◌, ◌<◌, ◌≤◌, ◌^◌, ◌∷◌, [], Some, length};
-ghost use Rattle.std.specs.Prelude.{map, slice_get, IfOk, OnOk};
+ghost use Rattle.std.specs.Prelude.{◌≡◌, ◌+◌, ◌-◌, ◌<◌, ◌≤◌, ◌^◌, length, IfOk};
 ghost use Rattle.c_lexer.specs.Directives.{IsLineMarker};
 ghost use Rattle.c_lexer.specs.Reading.{AreTokensOf};
-ghost use Rattle.line_marks.specs.Naming.{IsBehind, names_of};
-ghost use Rattle.line_marks.specs.Presumed.{AddsNames, ArePlacesOf};
+ghost use Rattle.line_marks.specs.Naming.{AreFound, IsBehind, names_of};
+ghost use Rattle.line_marks.specs.Presumed.{ArePlacesOf};
 
+use crate::file_names::FileNames;
 use c_lexer::{Kind, SourceText, Token, marker_of};
-use indexmap::IndexSet;
 use joern_io::{Bytes, List};
 use std::alloc::{AllocError, Global};
 
@@ -55,36 +54,23 @@ impl Presumption {
     }
 }
 
-/// The position of a name in the list of files, where it is added at the end if it is new.
-fn file_number<'b>(names: &mut IndexSet<&'b [u8]>, name: &'b [u8]) -> Result<u32, AllocError>
-    requires { length names.old.keys + 1 < 2 ^ 32 }
-    ensures stored { IfOk result (λ file.
-        slice_get (names_of names.new) file ≡ Some name.entry.now) }
-    ensures added { OnOk result
-        (AddsNames (names_of names.old) (name.entry.now ∷ []) (names_of names.new)) }
-    ensures few { OnOk result (length names.new.keys ≤ length names.old.keys + 1) }
-{
-    let (file, _) = names.insert_full(name)?;
-    Ok(file as u32)
-}
-
 /// What is presumed behind a line marker.
 fn behind<'b>(
-    names: &mut IndexSet<&'b [u8]>,
+    files: &mut FileNames<'b>,
     before: Presumption,
     text: SourceText<'b>,
     token: &Token,
 ) -> Result<Presumption, AllocError>
-    requires few { length names.old.keys + 1 < 2 ^ 32 }
+    requires few { length (names_of files.old) < 2 ^ 32 }
+    requires found { AreFound files.old }
     requires line { token.now.line ≤ length text.bytes.now + 1 }
     requires marker { IsLineMarker text.bytes.now token.now.start token.now.end }
-    ensures ok { IfOk result (λ after. IsBehind text.entry.bytes.now token.now
-        (names_of names.old) (names_of names.new) before after) }
-    ensures few { OnOk result (length names.new.keys ≤ length names.old.keys + 1) }
+    ensures { IfOk result (λ after.
+        IsBehind text.entry.bytes.now token.now files.old files.new before after) }
 {
     let marker = marker_of(text, token);
     let file = match marker.file {
-        Some(name) => file_number(names, name)?,
+        Some(name) => files.mention(name)?,
         None => before.file,
     };
     Ok(Presumption {
@@ -92,17 +78,6 @@ fn behind<'b>(
         from: token.line + 1,
         line: marker.line,
     })
-}
-
-/// The names, each in memory of its own.
-fn owned(alloc: Global, names: &[&[u8]]) -> Result<List<Bytes>, AllocError>
-    ensures { IfOk result (λ files. files ≡ map (λ name. name.now) names.now) }
-{
-    let mut files = List::new(alloc);
-    for name in names {
-        files.push(Bytes::of(name.to_vec(alloc)?))?;
-    }
-    Ok(files)
 }
 
 /// The presumed place of each token, and the names of the files, that with `name` first.
@@ -121,8 +96,8 @@ pub fn places_of(
         ArePlacesOf text.entry.bytes.now tokens.now name.now places.places places.files) }
     ensures one_each { IfOk result (λ places. length places.places ≡ length tokens.now) }
 {
-    let mut names: IndexSet<&[u8]> = IndexSet::new(alloc);
-    let file = file_number(&mut names, name.as_bytes())?;
+    let mut files = FileNames::new(alloc);
+    let file = files.mention(name.as_bytes())?;
     let mut presumption = Presumption {
         file,
         from: 1,
@@ -132,11 +107,11 @@ pub fn places_of(
     for token in tokens {
         places.push(presumption.place_of(token))?;
         if token.kind == Kind::Line {
-            presumption = behind(&mut names, presumption, text, token)?;
+            presumption = behind(&mut files, presumption, text, token)?;
         }
     }
     Ok(Places {
         places: List::of(places),
-        files: owned(alloc, names.as_slice())?,
+        files: files.to_files(alloc)?,
     })
 }

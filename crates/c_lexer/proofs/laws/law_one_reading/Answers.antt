@@ -8,8 +8,8 @@ returns-clause-one_list c = one_list
 pub returns-clause-one_stop : goal.returns-clause-one_stop
 returns-clause-one_stop c = one_stop
 
-pub returns-clause-never_both : goal.returns-clause-never_both
-returns-clause-never_both c = never_both
+pub returns-clause-not_both : goal.returns-clause-not_both
+returns-clause-not_both c = never_both
 
-pub returns-clause-some_reading : goal.returns-clause-some_reading
-returns-clause-some_reading c = some_reading
+pub returns-clause-some : goal.returns-clause-some
+returns-clause-some c = some_reading

@@ -10,8 +10,8 @@ pub loop-digit-preserved : goal.loop-digit-preserved
 loop-digit-preserved c =
     let low : 49 ≤ slice_index c.args.bytes.now c.in-Some.digit = grind arith in
     let high : slice_index c.args.bytes.now c.in-Some.digit ≤ 52 = grind arith in
-    let within = c.in-Some.ensures.0 in
-    let gap = c.in-Some.ensures.1.gap in
+    let within = c.in-Some.ensures.within in
+    let gap = c.in-Some.ensures.gap in
     let some = gap.some in
     record {
       low = omega arith;

@@ -5,10 +5,10 @@ use Rattle.c_lexer.proofs.Parts.{run_more}
 use Rattle.c_lexer.proofs.marker.line_number.Goals as goal
 
 pub returns-then-line-gt-MAX_LINE : goal.returns-then-line-gt-MAX_LINE
-returns-then-line-gt-MAX_LINE c to line within ends number =
+returns-then-line-gt-MAX_LINE c found h =
     let i = c.loop-past.invariant in
     let digit : IsDigit (slice_index c.args.bytes.now c.loop-past.past) = search rules in
-    number_too_large c.args.bytes.now c.args.from c.loop-past.past c.loop-past.line to line (omega arith) i.low i.digits digit i.value (omega arith) within ends number
+    number_too_large c.args.bytes.now c.args.from c.loop-past.past c.loop-past.line found.end found.line (omega arith) i.low i.digits digit i.value (omega arith) h.within h.ends h.number
 
 pub loop-past-preserved : goal.loop-past-preserved
 loop-past-preserved c =

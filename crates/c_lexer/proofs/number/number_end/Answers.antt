@@ -9,5 +9,5 @@ loop-end-preserved c =
     record {
       some = omega arith;
       high = omega arith;
-      each = run_more (IsNumberByte c.args.bytes.now c.args.from) c.args.from c.loop-end.end i.each (c.if-is_number_byte.ensures.0 refl);
+      each = run_more (IsNumberByte c.args.text.bytes.now c.args.from) c.args.from c.loop-end.end i.each (c.if-is_number_byte.ensures.0 refl);
     }

@@ -6,15 +6,15 @@ use Rattle.c_lexer.proofs.word_table.look_up.Goals as goal
 
 pub returns-then-eq : goal.returns-then-eq
 returns-then-eq c =
-    let place = slice_index c.args.places.now (slot_of c.args.word.now) in
+    let place = slice_index c.args.positions.now (slot_of c.args.word.now) in
     found c.args.table.now c.args.word.now place no_row
-    (place_within c.args.table.now c.args.places.now (slot_of c.args.word.now) (search rules) (search rules))
+    (place_within c.args.table.now c.args.positions.now (slot_of c.args.word.now) (search rules) (search rules))
     ((bytes_eq-Decides (get_or c.args.table.now place no_row).0.now c.args.word.now).0 (search rules))
 
 pub returns-else-eq : goal.returns-else-eq
 returns-else-eq c number h =
-    let place = slice_index c.args.places.now (slot_of c.args.word.now) in
-    let same = only_there c.args.table.now c.args.places.now c.args.word.now number no_row (search rules) h in
+    let place = slice_index c.args.positions.now (slot_of c.args.word.now) in
+    let same = only_there c.args.table.now c.args.positions.now c.args.word.now number no_row (search rules) h in
     let yes = (bytes_eq-Decides (get_or c.args.table.now place no_row).0.now c.args.word.now).1 same in
     let no : c.eq.result ≡ false = c.if-eq.false in
     let told : c.eq.result ≡ true = search (rules, yes) in

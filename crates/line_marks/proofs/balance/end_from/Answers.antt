@@ -9,13 +9,13 @@ returns-in-Some-group_end c =
     let tokens = c.args.tokens.now in
     let inner : IsBalancedTo tokens (c.args.at + 1) (slice_index c.args.ends.now (c.args.at + 1)) = c.requires.later (c.args.at + 1) (omega arith) (omega arith) in
     let low = inner.low in
-    let group = c.in-Some-group_end.ensures in
-    balanced_group tokens c.args.at _ c.in-Some-group_end.past _ inner group.0 group.2
-    (c.requires.later c.in-Some-group_end.past (omega arith) group.1)
+    let past = c.in-Some-group_end.ensures.past in
+    balanced_group tokens c.args.at _ c.in-Some-group_end.past _ inner past.0 c.in-Some-group_end.ensures.group
+    (c.requires.later c.in-Some-group_end.past (omega (arith, past.0)) past.1)
 
 pub returns-in-None : goal.returns-in-None
 returns-in-None c =
-    balanced_none c.args.tokens.now c.args.at c.in-Some.kind (sym c.in-Some.ensures.kind) (c.is_bracket.ensures.0 c.if-is_bracket.true) c.in-None.ensures
+    balanced_none c.args.tokens.now c.args.at c.in-Some.kind (sym c.in-Some.ensures.kind) (c.is_bracket.ensures.0 c.if-is_bracket.true) c.in-None.ensures.group
 
 pub returns-in_default : goal.returns-in_default
 returns-in_default c =

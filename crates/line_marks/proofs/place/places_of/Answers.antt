@@ -5,7 +5,7 @@ use Rattle.std.specs.Borrow.{Bor}
 use Rattle.c_lexer.specs.declared.token.Kind.TheVariants.{Line, Word}
 use Rattle.c_lexer.specs.declared.token.Token.{Token}
 use Rattle.line_marks.specs.declared.place.Presumption.{Presumption}
-use Rattle.line_marks.specs.Naming.{names_of}
+use Rattle.line_marks.specs.Naming.{Mentions, names_of}
 use Rattle.line_marks.specs.Presumed.{AddsNames}
 use Rattle.line_marks.proofs.Tokens.{few_tokens, line_small, marker_is, token_is}
 use Rattle.line_marks.proofs.Walk.{walked_as, walked_marker, walked_none, walked_other}
@@ -18,56 +18,55 @@ blank = record { kind = Word; start = 0; end = 0; line = 0; column = 0 }
 
 pub loop-token-init : goal.loop-token-init
 loop-token-init c =
-    let bytes = c.args.bytes.now in
+    let bytes = c.args.text.bytes.now in
     let name = c.args.name.now in
-    let names = names_of c.file_number.new.names in
+    let names = names_of c.mention.new.self in
     let file = c.in_ok-file.file in
     let first = c.as_bytes.ensures.value in
-    let none : c.new-names.result.keys ≡ [] = c.new-names.ensures.empty in
-    let empty : names_of c.new-names.result ≡ [] = ap (λ (keys : List (Bor (List ℕ))). map (λ (k : Bor (List ℕ)). k.now) keys) none in
-    let added = subst (λ x. AddsNames x (name ∷ []) names) empty
-    (subst (λ x. AddsNames (names_of c.new-names.result) (x ∷ []) names) first c.in_ok-file.ensures.added) in
-    let stored = subst (λ x. slice_get names file ≡ Some x) first c.in_ok-file.ensures.stored in
+    let mentions = subst (λ n. Mentions c.new-files.result c.mention.new.self n file) first c.in_ok-file.ensures in
+    let added = subst (λ old. AddsNames old (name ∷ []) names) c.new-files.ensures.none mentions.added in
     let start : Presumption = record { file = file; from = 1; line = 1 } in
-    let few = c.in_ok-file.ensures.few in
+    let few = mentions.few in
+    let none = ap length c.new-files.ensures.none in
     record {
       walked = walked_as bytes name [] [] [] c.new-places.result.items names names start start
-          (walked_none bytes name names file added stored) refl c.new-places.ensures.items refl refl;
+          (walked_none bytes name names file added mentions.stands) refl c.new-places.ensures.items refl refl;
       one_each = grind (arith, common_steps);
-      few = omega (arith, ap length none);
+      few = omega (arith, none);
+      found = mentions.found;
       small = omega arith;
     }
 
 pub place_of-requires : goal.place_of-requires
 place_of-requires c =
-    let token = token_is c.args.bytes.now c.args.tokens.now c.loop-token.token-index blank c.requires.tokens c.loop-token-test.true in
-    let low = line_small c.args.bytes.now (get_or c.args.tokens.now c.loop-token.token-index blank) token in
+    let token = token_is c.args.text.bytes.now c.args.tokens.now c.loop-token.token-index blank c.requires.tokens c.loop-token-test.true in
+    let low = line_small c.args.text.bytes.now (get_or c.args.tokens.now c.loop-token.token-index blank) token in
     omega arith
 
 pub behind-requires-clause-few : goal.behind-requires-clause-few
-behind-requires-clause-few c = let few = few_tokens c.args.bytes.now c.args.tokens.now c.requires.tokens in omega arith
+behind-requires-clause-few c = let few = few_tokens c.args.text.bytes.now c.args.tokens.now c.requires.tokens in omega arith
 
 pub behind-requires-clause-line : goal.behind-requires-clause-line
 behind-requires-clause-line c =
-    let token = token_is c.args.bytes.now c.args.tokens.now c.loop-token.token-index blank c.requires.tokens c.loop-token-test.true in
-    line_small c.args.bytes.now (get_or c.args.tokens.now c.loop-token.token-index blank) token
+    let token = token_is c.args.text.bytes.now c.args.tokens.now c.loop-token.token-index blank c.requires.tokens c.loop-token-test.true in
+    line_small c.args.text.bytes.now (get_or c.args.tokens.now c.loop-token.token-index blank) token
 
 pub behind-requires-clause-marker : goal.behind-requires-clause-marker
 behind-requires-clause-marker c =
     let t = get_or c.args.tokens.now c.loop-token.token-index blank in
-    let token = token_is c.args.bytes.now c.args.tokens.now c.loop-token.token-index blank c.requires.tokens c.loop-token-test.true in
+    let token = token_is c.args.text.bytes.now c.args.tokens.now c.loop-token.token-index blank c.requires.tokens c.loop-token-test.true in
     let decides : IsTrue c.eq.result ↔ (t.kind ≡ Line) = search rules in
-    marker_is c.args.bytes.now t token (decides.0 c.if-eq.true)
+    marker_is c.args.text.bytes.now t token (decides.0 c.if-eq.true)
 
 pub loop-token-preserved : goal.loop-token-preserved
 loop-token-preserved c =
-    let bytes = c.args.bytes.now in
+    let bytes = c.args.text.bytes.now in
     let name = c.args.name.now in
     let tokens = c.args.tokens.now in
     let i = c.loop-token.token-index in
     let t = get_or tokens i blank in
     let places = c.loop-token.places.items in
-    let files = names_of c.loop-token.names in
+    let files = c.loop-token.files in
     let before = c.loop-token.presumption in
     let more = take_more tokens i blank c.loop-token-test.true in
     let decides : IsTrue c.eq.result ↔ (t.kind ≡ Line) = search rules in
@@ -77,26 +76,27 @@ loop-token-preserved c =
     elim c.if-eq.branch [
       | then-eq+in_ok-presumption w ↦
           let after = w.in_ok-presumption.presumption in
-          let names = w.behind.new.names in
-          let b = w.in_ok-presumption.ensures.after in
-          let step = walked_marker bytes name (take i tokens) places files (names_of names) before after t c.place_of.result
+          let b = w.in_ok-presumption.ensures in
+          let step = walked_marker bytes name (take i tokens) places files w.behind.new.files before after t c.place_of.result
           c.loop-token.invariant.walked (decides.0 w.if-eq.true) b c.place_of.ensures.file c.place_of.ensures.line in
-          let more_names = w.in_ok-presumption.ensures.few in
+          let more_names = b.few in
           let small = b.small in
           record {
-            walked = walked_as bytes name _ _ _ _ _ _ after c.if-eq.presumption step more grown (ap (λ set. names_of set) w.names-is) w.presumption-is;
+            walked = walked_as bytes name _ _ _ _ _ _ after c.if-eq.presumption step more grown (ap (λ set. names_of set) w.files-is) w.presumption-is;
             one_each = one_each;
-            few = rw w.names-is (omega arith);
+            few = rw w.files-is (omega arith);
+            found = rw w.files-is b.found;
             small = rw w.presumption-is small;
           }
       | else-eq w ↦
           let other = λ (e : t.kind ≡ Line). absurd (cc (decides.1 e, w.if-eq.false)) in
-          let step = walked_other bytes name (take i tokens) places files before.file before.from before.line t c.place_of.result
+          let step = walked_other bytes name (take i tokens) places (names_of files) before.file before.from before.line t c.place_of.result
           c.loop-token.invariant.walked other c.place_of.ensures.file c.place_of.ensures.line in
           record {
-            walked = walked_as bytes name _ _ _ _ _ _ before c.if-eq.presumption step more grown (ap (λ set. names_of set) w.names-is) w.presumption-is;
+            walked = walked_as bytes name _ _ _ _ _ _ before c.if-eq.presumption step more grown (ap (λ set. names_of set) w.files-is) w.presumption-is;
             one_each = one_each;
-            few = rw w.names-is (omega arith);
+            few = rw w.files-is (omega arith);
+            found = rw w.files-is c.loop-token.invariant.found;
             small = rw w.presumption-is c.loop-token.invariant.small;
           }
     ]

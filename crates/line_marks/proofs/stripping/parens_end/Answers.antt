@@ -1,4 +1,5 @@
-use Rattle.std.proofs.Common.{rules, ◌↔◌, IsTrue, ◌≡◌, ◌<◌, ◌≤◌, ℕ, List, length, Some, None, Option, MatchOption, sym, arith}
+use Rattle.std.proofs.Common.{rules, ◌↔◌, IsTrue, ◌≡◌, ℕ, List, Some, None, Option, sym, arith}
+use Rattle.c_lexer.specs.Finds.{Finds}
 use Rattle.c_lexer.specs.declared.token.Kind.TheVariants.{Mark}
 use Rattle.c_lexer.specs.declared.token.Token.{Token}
 use Rattle.line_marks.specs.Balance.{IsGroup, kind_at}
@@ -7,19 +8,18 @@ use Rattle.line_marks.specs.Kept as kept
 use Rattle.line_marks.proofs.Dropping.{parens_here, parens_later}
 use Rattle.line_marks.proofs.stripping.parens_end.Goals as goal
 
-ends_so : (tokens : List Token) (from at : ℕ) (r : Option ℕ) → from ≤ at → kind_at tokens at ≡ Some (Mark 2) →
+ends_so : (tokens : List Token) (from at : ℕ) (r : Option ℕ) → kind_at tokens at ≡ Some (Mark 2) →
     ((to : ℕ) → AreParens tokens at to → AreParens tokens from to) → ((to : ℕ) → AreParens tokens from to → AreParens tokens at to) →
-    MatchOption r ((to : ℕ) → IsGroup tokens at to → ⊥) (λ to. (at < to) × (to ≤ length tokens) × IsGroup tokens at to) →
-    MatchOption r ((to : ℕ) → AreParens tokens from to → ⊥) (λ to. (from < to) × (to ≤ length tokens) × AreParens tokens from to)
-ends_so tokens from at None low is found none h = λ to p. h to (parens_here tokens at to is (none to p))
-ends_so tokens from at (Some to) low is found none h = (omega (arith, h.0), h.1, found to (kept.AreParens.parens is h.2))
+    Finds (IsGroup tokens at) r → Finds (AreParens tokens from) r
+ends_so tokens from at None is found none h = λ to p. h to (parens_here tokens at to is (none to p))
+ends_so tokens from at (Some to) is found none h = found to (kept.AreParens.parens is h)
 
-pub returns-then-eq : goal.returns-then-eq
-returns-then-eq c =
+pub returns-then-eq-clause-parens : goal.returns-then-eq-clause-parens
+returns-then-eq-clause-parens c =
     let decides : IsTrue c.eq.result ↔ (c.in-Some.kind ≡ Mark 2) = search rules in
     let same = decides.0 c.if-eq.true in
-    ends_so c.args.tokens.now c.args.from c.loop-kind.at c.group_from.result c.loop-kind.invariant.low (cc (c.in-Some.ensures.kind, same))
-    c.loop-kind.invariant.found c.loop-kind.invariant.none c.group_from.ensures
+    ends_so c.args.tokens.now c.args.from c.loop-kind.at c.group_from.result (cc (c.in-Some.ensures.kind, same))
+    c.loop-kind.invariant.found c.loop-kind.invariant.none c.group_from.ensures.group
 
 pub loop-kind-preserved : goal.loop-kind-preserved
 loop-kind-preserved c =

@@ -2,6 +2,7 @@ use Rattle.std.proofs.Common.{◌≡◌, ◌++◌, ◌∷◌, [], ℕ, List, Non
 use Rattle.std.proofs.Math.Seq.{append_snoc}
 use Rattle.std.proofs.lemmas.List.{append-nil}
 use Rattle.c_lexer.specs.declared.token.Token.{Token}
+use Rattle.line_marks.specs.Balance.{kind_at}
 use Rattle.line_marks.specs.Kept as kept
 use Rattle.line_marks.specs.Kept.{AreKept, IsBadAttribute, StopsStripping, Strips}
 use Rattle.line_marks.proofs.Dropping.{not_both}
@@ -32,12 +33,20 @@ returns-in-Refuse-clause-accepts c = λ xs h.
     absurd (not_both c.args.tokens.now xs c.loop-kind.at h
     (stops_at c.args.tokens.now c.loop-kind.kept.items c.loop-kind.at c.in-Refuse.ensures (c.loop-kind.invariant [] c.loop-kind.at (kept.Strips.stops c.in-Refuse.ensures))))
 
-pub returns-clause-kept : goal.returns-clause-kept
-returns-clause-kept c =
-    let end = sym c.in_default.ensures.kind in
-    record {
-      stop = c.loop-kind.at;
-      strips = subst (λ (xs : List ℕ). Strips c.args.tokens.now None 0 xs c.loop-kind.at) (append-nil c.loop-kind.kept.items)
-          (c.loop-kind.invariant [] c.loop-kind.at (kept.Strips.ends end));
-      end = end;
-    }
+kept_to : (tokens : List Token) (xs : List ℕ) (at : ℕ) → kind_at tokens at ≡ None → Strips tokens None 0 (xs ++ []) at → AreKept tokens xs
+kept_to tokens xs at end strips = record {
+  stop = at;
+  strips = subst (λ (ys : List ℕ). Strips tokens None 0 ys at) (append-nil xs) strips;
+  end = end;
+}
+
+pub returns-clause-refuses : goal.returns-clause-refuses
+returns-clause-refuses c = λ at stops. 
+    absurd (not_both c.args.tokens.now c.loop-kind.kept.items at
+    (kept_to c.args.tokens.now c.loop-kind.kept.items c.loop-kind.at (sym c.in_default.ensures.kind)
+    (c.loop-kind.invariant [] c.loop-kind.at (kept.Strips.ends (sym c.in_default.ensures.kind)))) stops)
+
+pub returns-clause-ok : goal.returns-clause-ok
+returns-clause-ok c =
+    kept_to c.args.tokens.now c.loop-kind.kept.items c.loop-kind.at (sym c.in_default.ensures.kind)
+    (c.loop-kind.invariant [] c.loop-kind.at (kept.Strips.ends (sym c.in_default.ensures.kind)))

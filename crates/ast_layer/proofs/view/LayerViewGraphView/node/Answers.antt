@@ -1,4 +1,4 @@
--- The node that is kept at the place, with its texts, is the node of the graph.
+-- The node that is kept at the position, with its texts, is the node of the graph.
 use Rattle.std.proofs.Common.{◌≡◌, Some, slice_get, sym, ap, ◌∙◌, arith}
 use Rattle.std.specs.Option.{option_map}
 use Rattle.std.proofs.lemmas.List.{length-map}

@@ -7,4 +7,4 @@ use Rattle.graph_text.proofs.printer.Printer.parts.Given as goal
 -- the parts so far were printed
 abbrev pub invariant-loop-part : goal.invariant-loop-part
 invariant-loop-part g l = Prints (g.S.Sink.state l.fn.sink, l.fn.self) (g.S.Sink.state l.sink, l.self)
-      (flat_map part_text (take l.part-index l.parts))
+    (flat_map part_text (take l.part-index l.parts))
