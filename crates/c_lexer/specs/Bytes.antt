@@ -1,6 +1,6 @@
 -- The classes of bytes (C11 5.2.1), in ASCII.
 
-use Rattle.std.specs.Prelude.{ℕ, ◌≡◌, ◌≤◌, ◌⊎◌}
+use Rattle.std.specs.Prelude.{ℕ, ◌≡◌, ◌≢◌, ◌≤◌, ◌⊎◌}
 
 -- ---- Bytes with a name
 
@@ -37,14 +37,14 @@ backslash = 92
 
 -- ---- Classes
 
--- Space, or one of tab, line feed, vertical tab and form feed (6.4p3), or, ours, carriage return: they
--- are 9 to 13.
+-- Space, or one of tab, line feed, vertical tab and form feed (6.4p3), or, ours, carriage return:
+-- they are 9 to 13.
 abbrev pub IsBlank : ℕ → Type 0
 IsBlank byte = (byte ≡ 32) ⊎ ((9 ≤ byte) × (byte ≤ 13))
 
 -- A blank that does not end the line.
 abbrev pub IsLineBlank : ℕ → Type 0
-IsLineBlank byte = IsBlank byte × (byte ≡ line_feed → ⊥)
+IsLineBlank byte = IsBlank byte × (byte ≢ line_feed)
 
 -- `a` to `z`, `A` to `Z`, or `_` (6.4.2.1).
 abbrev pub IsLetter : ℕ → Type 0

@@ -4,7 +4,7 @@ use Rattle.std.specs.Prelude.{ℕ, ◌≡◌, ◌⊎◌, ◌+◌, ◌<◌, ◌�
 use Rattle.c_lexer.specs.Bytes.{slash, asterisk}
 use Rattle.c_lexer.specs.Lines.{OnOneLine, EndsLine}
 
--- Two bytes stand at the place, one after the other.
+-- Two bytes stand at the offset, one after the other.
 pub record IsPair (bytes : List ℕ) (at first second : ℕ) : Type 0 where
   pub first_is : slice_index bytes at ≡ first
   pub second_is : slice_index bytes (at + 1) ≡ second
@@ -19,7 +19,7 @@ pub record IsBlockComment (bytes : List ℕ) (from to : ℕ) : Type 0 where
   pub close : ℕ
   pub behind : from + 2 ≤ close
   pub closes : IsPair bytes close asterisk slash
-  pub first : (i : ℕ) → from + 2 ≤ i → i < close → IsPair bytes i asterisk slash → ⊥
+  pub first : (i : ℕ) → from + 2 ≤ i → i < close → ¬ IsPair bytes i asterisk slash
   pub end : to ≡ close + 2
   pub within : to ≤ length bytes
 

@@ -1,7 +1,8 @@
--- The lines that begin with `#` in the preprocessor's output (ours, after C11 6.10.4 and 6.10.6): line
--- markers and pragmas. Such a line is one token, from its `#` to its end.
+-- The lines that begin with `#` in the preprocessor's output (ours, after C11 6.10.4 and 6.10.6):
+-- line markers and pragmas. Such a line is one token, from its `#` to its end.
 
-use Rattle.std.specs.Prelude.{ℕ, ◌≡◌, ◌+◌, ◌-◌, ◌*◌, ◌<◌, ◌≤◌, List, [], ◌∷◌, Option, Some, None, codes, slice_index, slice_range}
+use Rattle.std.specs.Prelude.{ℕ, ◌≡◌, ◌+◌, ◌-◌, ◌*◌, ◌<◌, ◌≤◌, List, [], ◌∷◌}
+use Rattle.std.specs.Prelude.{Option, Some, None, codes, slice_index, slice_range}
 use Rattle.c_lexer.specs.Bytes.{number_sign, double_quote, IsDigit}
 use Rattle.c_lexer.specs.Lines.{AreLineBlanks, OnOneLine, BeginsLine, EndsLine}
 use Rattle.c_lexer.specs.Literals.{IsQuoted}
@@ -15,12 +16,12 @@ digits_value value (digit ∷ digits) = digits_value (10 * value + (digit - 48))
 abbrev pub max_line : ℕ
 max_line = 2147483647
 
--- Blanks of one line stand between the places, at least one.
+-- Blanks of one line stand between the offsets, at least one.
 pub record IsGap (bytes : List ℕ) (from to : ℕ) : Type 0 where
   pub some : from < to
   pub blanks : AreLineBlanks bytes from to
 
--- Digits stand between the places, at least one, that spell the number.
+-- Digits stand between the offsets, at least one, that spell the number.
 pub record IsLineNumber (bytes : List ℕ) (from to line : ℕ) : Type 0 where
   pub some : from < to
   pub digits : (i : ℕ) → from ≤ i → i < to → IsDigit (slice_index bytes i)
@@ -47,8 +48,8 @@ pub data AreFlags (bytes : List ℕ) : ℕ → ℕ → Type 0 where
   flag : {from digit to : ℕ} → IsGap bytes from digit → 49 ≤ slice_index bytes digit →
       slice_index bytes digit ≤ 52 → AreFlags bytes (digit + 1) to → AreFlags bytes from to
 
--- Between the places stands a line marker: it says that the next line has this number, and is of this
--- file if it names one.
+-- Between the offsets stands a line marker: it says that the next line has this number, and is of
+-- this file if it names one.
 pub record IsMarkerOf (bytes : List ℕ) (from to line : ℕ) (file : Option (List ℕ)) : Type 0 where
   pub begins_line : BeginsLine bytes from
   pub sign : slice_index bytes from ≡ number_sign
@@ -62,10 +63,11 @@ pub record IsMarkerOf (bytes : List ℕ) (from to line : ℕ) (file : Option (Li
   pub ends_line : EndsLine bytes to
 
 abbrev pub IsLineMarker : List ℕ → ℕ → ℕ → Type 0
-IsLineMarker bytes from to = (line : ℕ) × (file : Option (List ℕ)) × IsMarkerOf bytes from to line file
+IsLineMarker bytes from to =
+    (line : ℕ) × (file : Option (List ℕ)) × IsMarkerOf bytes from to line file
 
--- Between the places stands a pragma: `#`, blanks if there are any, `pragma`, and any bytes to the end
--- of the line (6.10.6). Ours: `pragma` need not be a whole word.
+-- Between the offsets stands a pragma: `#`, blanks if there are any, `pragma`, and any bytes to the
+-- end of the line (6.10.6). Ours: `pragma` need not be a whole word.
 pub record IsPragma (bytes : List ℕ) (from to : ℕ) : Type 0 where
   pub begins_line : BeginsLine bytes from
   pub sign : slice_index bytes from ≡ number_sign

@@ -21,11 +21,12 @@ alternative text number = record { text = codes text; number = number; is_altern
 abbrev pub numbers_of : List Entry → List (List ℕ × ℕ)
 numbers_of entries = map (λ entry. (entry.text, entry.number)) entries
 
--- The number of a spelling is its position in the list, from 0. At the number of an alternative one stands
--- a spelling that is none.
+-- The number of a spelling is its position in the list, from 0. The number of an alternative one is
+-- the position of a spelling that is none.
 pub record HavePositions (entries : List Entry) : Type 0 where
   pub spellings : (at : ℕ) (entry : Entry) → slice_get entries at ≡ Some entry →
       entry.is_alternative ≡ false → entry.number ≡ at
   pub alternatives : (at : ℕ) (entry : Entry) → slice_get entries at ≡ Some entry →
       entry.is_alternative ≡ true →
-      (other : Entry) × (slice_get entries entry.number ≡ Some other) × (other.is_alternative ≡ false)
+      (other : Entry) × (slice_get entries entry.number ≡ Some other)
+      × (other.is_alternative ≡ false)

@@ -3,23 +3,61 @@
 use Rattle.std.specs.Prelude.{ℕ, List, [], ◌∷◌, slice_range}
 use Rattle.std.specs.List.{Contains}
 use Rattle.c_lexer.specs.declared.mark.TheConstants.{
-    MARK_LEFT_BRACKET, MARK_RIGHT_BRACKET, MARK_LEFT_PAREN, MARK_RIGHT_PAREN, MARK_LEFT_BRACE,
-    MARK_RIGHT_BRACE, MARK_DOT, MARK_ARROW, MARK_PLUS_PLUS, MARK_MINUS_MINUS, MARK_AMPERSAND,
-    MARK_STAR, MARK_PLUS, MARK_MINUS, MARK_TILDE, MARK_EXCLAMATION, MARK_SLASH, MARK_PERCENT,
-    MARK_LEFT_SHIFT, MARK_RIGHT_SHIFT, MARK_LESS, MARK_GREATER, MARK_LESS_EQUAL,
-    MARK_GREATER_EQUAL, MARK_EQUAL_EQUAL, MARK_NOT_EQUAL, MARK_CARET, MARK_BAR, MARK_AND_AND,
-    MARK_OR_OR, MARK_QUESTION, MARK_COLON, MARK_SEMICOLON, MARK_ELLIPSIS, MARK_EQUAL,
-    MARK_STAR_EQUAL, MARK_SLASH_EQUAL, MARK_PERCENT_EQUAL, MARK_PLUS_EQUAL, MARK_MINUS_EQUAL,
-    MARK_LEFT_SHIFT_EQUAL, MARK_RIGHT_SHIFT_EQUAL, MARK_AMPERSAND_EQUAL, MARK_CARET_EQUAL,
-    MARK_BAR_EQUAL, MARK_COMMA
+  MARK_LEFT_BRACKET,
+  MARK_RIGHT_BRACKET,
+  MARK_LEFT_PAREN,
+  MARK_RIGHT_PAREN,
+  MARK_LEFT_BRACE,
+  MARK_RIGHT_BRACE,
+  MARK_DOT,
+  MARK_ARROW,
+  MARK_PLUS_PLUS,
+  MARK_MINUS_MINUS,
+  MARK_AMPERSAND,
+  MARK_STAR,
+  MARK_PLUS,
+  MARK_MINUS,
+  MARK_TILDE,
+  MARK_EXCLAMATION,
+  MARK_SLASH,
+  MARK_PERCENT,
+  MARK_LEFT_SHIFT,
+  MARK_RIGHT_SHIFT,
+  MARK_LESS,
+  MARK_GREATER,
+  MARK_LESS_EQUAL,
+  MARK_GREATER_EQUAL,
+  MARK_EQUAL_EQUAL,
+  MARK_NOT_EQUAL,
+  MARK_CARET,
+  MARK_BAR,
+  MARK_AND_AND,
+  MARK_OR_OR,
+  MARK_QUESTION,
+  MARK_COLON,
+  MARK_SEMICOLON,
+  MARK_ELLIPSIS,
+  MARK_EQUAL,
+  MARK_STAR_EQUAL,
+  MARK_SLASH_EQUAL,
+  MARK_PERCENT_EQUAL,
+  MARK_PLUS_EQUAL,
+  MARK_MINUS_EQUAL,
+  MARK_LEFT_SHIFT_EQUAL,
+  MARK_RIGHT_SHIFT_EQUAL,
+  MARK_AMPERSAND_EQUAL,
+  MARK_CARET_EQUAL,
+  MARK_BAR_EQUAL,
+  MARK_COMMA,
 }
 use Rattle.c_lexer.specs.Entries.{Entry, spelling, alternative, numbers_of}
 use Rattle.c_lexer.specs.Bytes.{percent_sign, colon}
 use Rattle.c_lexer.specs.Comments.{IsPair, BeginsComment}
 
--- The marks of C11 (p1) but `#`, `##` and their digraphs, and then the other digraphs (p3). A mark's
--- number is its position in this list, from 0, and a digraph has the number of the mark that it stands
--- for (`laws::law_names`). Ours: `#` and `##` begin no token, for the preprocessor has done with them.
+-- The marks of C11 (p1) but `#`, `##` and their digraphs, and then the other digraphs (p3). A
+-- mark's number is its position in this list, from 0, and a digraph has the number of the mark that
+-- it stands for (`laws::law_names`). Ours: `#` and `##` begin no token, for the preprocessor has
+-- done with them.
 unfoldable pub marks : List Entry
 marks =
     spelling "[" MARK_LEFT_BRACKET ∷ spelling "]" MARK_RIGHT_BRACKET ∷

@@ -1,6 +1,6 @@
--- How a text is read: each token is the longest that stands at its place (C11 6.4p4).
+-- How a text is read: each token is the longest that stands at its offset (C11 6.4p4).
 
-use Rattle.std.specs.Prelude.{ℕ, ◌≡◌, ◌⊎◌, ◌+◌, ◌<◌, ◌≤◌, List, [], ◌∷◌, length, slice_index}
+use Rattle.std.specs.Prelude.{ℕ, ◌≡◌, ◌≢◌, ◌⊎◌, ◌+◌, ◌<◌, ◌≤◌, List, [], ◌∷◌, length, slice_index}
 use Rattle.c_lexer.specs.declared.token.Kind.{Kind}
 use Rattle.c_lexer.specs.declared.token.Token.{Token}
 use Rattle.c_lexer.specs.Bytes.{slash, asterisk, single_quote, double_quote}
@@ -9,25 +9,25 @@ use Rattle.c_lexer.specs.Comments.{IsPair}
 use Rattle.c_lexer.specs.Spelling.{Spells}
 use Rattle.c_lexer.specs.Passing.{PassesAll}
 
--- A token of the kind stands between the places, and no longer one begins there (6.4p4).
+-- A token of the kind stands between the offsets, and no longer one begins there (6.4p4).
 pub record IsLongest (bytes : List ℕ) (from to : ℕ) (kind : Kind) : Type 0 where
   pub some : from < to
   pub within : to ≤ length bytes
   pub spelled : Spells bytes from to kind
   pub longest : (other : Kind) (past : ℕ) → to < past → past ≤ length bytes →
-      Spells bytes from past other → ⊥
+      ¬ Spells bytes from past other
 
--- No token begins at the place.
+-- No token begins at the offset.
 abbrev pub BeginsNoToken : List ℕ → ℕ → Type 0
 BeginsNoToken bytes at =
-    (kind : Kind) (to : ℕ) → at < to → to ≤ length bytes → Spells bytes at to kind → ⊥
+    (kind : Kind) (to : ℕ) → at < to → to ≤ length bytes → ¬ Spells bytes at to kind
 
 -- The token's bytes stand in the text.
 pub record IsWithin (bytes : List ℕ) (token : Token) : Type 0 where
   pub forward : token.start ≤ token.end
   pub inside : token.end ≤ length bytes
 
--- The token is the longest at its place, with the line and the column of that place.
+-- The token is the longest at its offset, with the line and the column of that offset.
 pub record IsTokenOf (bytes : List ℕ) (token : Token) : Type 0 where
   pub longest : IsLongest bytes token.start token.end token.kind
   pub line : token.line ≡ line_at bytes token.start
@@ -44,16 +44,16 @@ Reads bytes from (token ∷ tokens) stop =
 abbrev pub AreTokensOf : List ℕ → List Token → Type 0
 AreTokensOf bytes tokens = Reads bytes 0 tokens (length bytes)
 
--- The reading stops at the place, before the end of the text.
+-- The reading stops at the offset, before the end of the text.
 pub record StopsAt (bytes : List ℕ) (at : ℕ) : Type 0 where
   pub before_end : at < length bytes
   pub tokens : List Token
   pub reads : Reads bytes 0 tokens at
 
--- A block comment, a string literal or a character constant begins at the place. Where the reading stops
--- there, it does not end. At `''` none begins: its character is missing.
+-- A block comment, a string literal or a character constant begins at the offset. Where the reading
+-- stops there, it does not end. At `''` none begins: its character is missing.
 abbrev pub LeavesOpen : List ℕ → ℕ → Type 0
 LeavesOpen bytes at =
     IsPair bytes at slash asterisk
     ⊎ (slice_index bytes at ≡ double_quote)
-    ⊎ ((slice_index bytes at ≡ single_quote) × (slice_index bytes (at + 1) ≡ single_quote → ⊥))
+    ⊎ ((slice_index bytes at ≡ single_quote) × (slice_index bytes (at + 1) ≢ single_quote))

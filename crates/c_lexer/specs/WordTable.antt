@@ -1,6 +1,7 @@
 -- A table of words in which one look finds a word.
 
-use Rattle.std.specs.Prelude.{ℕ, ◌+◌, ◌-◌, ◌*◌, ◌/◌, ◌%◌, ◌==◌, ◌&&◌, Bool, true, List, [], ◌∷◌, length, map, slice_index}
+use Rattle.std.specs.Prelude.{ℕ, ◌+◌, ◌-◌, ◌*◌, ◌/◌, ◌%◌, ◌==◌, ◌&&◌, Bool, true}
+use Rattle.std.specs.Prelude.{List, [], ◌∷◌, length, map, slice_index}
 use Rattle.std.specs.Borrow.{Bor}
 
 -- The rows of the code's table: a word and its number.
@@ -13,8 +14,8 @@ slot_of word =
     (23 * length word + 29 * slice_index word 0 + 63 * slice_index word (length word * 2 / 3)
     + 19 * slice_index word (length word - 1)) % 256
 
--- Whether each row's place, of which the first is `place`, stands at the slot of its word.
+-- Whether the position of each row, of which the first is `at`, stands at the slot of its word.
 abbrev pub are_placed : List (List ℕ × ℕ) → ℕ → List ℕ → Bool
-are_placed [] place places = true
-are_placed (row ∷ rows) place places =
-    (slice_index places (slot_of row.0) == place) && are_placed rows (place + 1) places
+are_placed [] at positions = true
+are_placed (row ∷ rows) at positions =
+    (slice_index positions (slot_of row.0) == at) && are_placed rows (at + 1) positions

@@ -1,7 +1,8 @@
 //! The classes of bytes (C11 5.2.1).
 
 ghost use Rattle.std.specs.Prelude.{◌↔◌, IsTrue};
-ghost use Rattle.c_lexer.specs.Bytes.{IsBlank, IsDigit, IsExponent, IsLetter, IsLineBlank, IsSign, IsWordByte};
+ghost use Rattle.c_lexer.specs.Bytes.{IsBlank, IsDigit, IsExponent, IsLetter, IsLineBlank};
+ghost use Rattle.c_lexer.specs.Bytes.{IsSign, IsWordByte};
 
 pub(crate) fn is_blank(byte: u8) -> bool
     ensures { IsTrue result ↔ IsBlank byte }

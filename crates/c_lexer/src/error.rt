@@ -6,15 +6,15 @@ use thiserror::Error;
 /// Where the reading of a file stops before its end.
 #[derive(Debug, Drop, PartialEq, Eq, Error)]
 pub enum LexStop {
-    /// No token begins with the byte at this position.
+    /// No token begins with the byte at this offset.
     #[error("no token begins at byte {at}")]
     BadByte { at: u32 },
-    /// The comment, the character constant or the string literal that begins at this position does
+    /// The comment, the character constant or the string literal that begins at this offset does
     /// not end.
     #[error("what begins at byte {at} does not end")]
     Unclosed { at: u32 },
     /// There was no memory for the tokens.
-    #[error("out of memory")]
+    #[error("want of memory")]
     Memory,
 }
 

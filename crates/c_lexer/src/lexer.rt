@@ -1,6 +1,7 @@
 //! The entry: from the bytes of a file to its tokens.
 
-ghost use Rattle.std.specs.Prelude.{◌≡◌, ◌+◌, ℕ, List, ◌<◌, ◌≤◌, length, slice_index, IfNone, IfOk, IsErr, IsErrOf, IsOkUnless};
+ghost use Rattle.std.specs.Prelude.{ℕ, ◌≡◌, ◌≢◌, ◌<◌, ◌≤◌, List, length, slice_index};
+ghost use Rattle.std.specs.Prelude.{IfNone, IfOk, IsErr, IsErrOf, IsOkUnless};
 ghost use Rattle.c_lexer.specs.Bytes.{IsLetter, IsWordByte, asterisk, slash};
 ghost use Rattle.c_lexer.specs.Comments.{BeginsComment, IsPair};
 ghost use Rattle.c_lexer.specs.Finds.{Finds};
@@ -108,7 +109,7 @@ fn stop_at(text: SourceText<'_>, at: usize) -> LexStop
         (n ≡ at) × ¬ LeavesOpen text.entry.bytes.now at }
     ensures unclosed { (n : ℕ) → result ≡ LexStop.Unclosed n →
         (n ≡ at) × LeavesOpen text.entry.bytes.now at }
-    ensures no_memory { ¬ (result ≡ LexStop.Memory) }
+    ensures no_memory { result ≢ LexStop.Memory }
 {
     let offset = at as u32;
     match text.bytes[at] {

@@ -10,8 +10,8 @@ ghost use Rattle.c_lexer.specs.Marks.{BeginsHash, IsMark};
 ghost use Rattle.c_lexer.specs.Scanning.{IsLongestMark, IsSecond};
 
 use crate::comment::begins_comment;
-use crate::source_text::SourceText;
 use crate::pair::is_pair;
+use crate::source_text::SourceText;
 use crate::word_table::look_up;
 
 pub const MARK_LEFT_BRACKET: u8 = 0;

@@ -5,7 +5,8 @@ ghost use Rattle.c_lexer.specs.Bytes.{number_sign};
 ghost use Rattle.c_lexer.specs.Lines.{BeginsLine};
 ghost use Rattle.c_lexer.specs.Directives.{AreFlags, IsLineMarker, IsMarkerOf};
 ghost use Rattle.c_lexer.specs.Finds.{Finds};
-ghost use Rattle.c_lexer.specs.Scanning.{BeginsFlag, EndsGap, IsFileAt, IsLineNumberAt, IsMarkerAt, file_of};
+ghost use Rattle.c_lexer.specs.Scanning.{BeginsFlag, EndsGap, IsFileAt, IsLineNumberAt};
+ghost use Rattle.c_lexer.specs.Scanning.{IsMarkerAt, file_of};
 
 use crate::byte_class::is_digit;
 use crate::line::{blanks_end, ends_line};

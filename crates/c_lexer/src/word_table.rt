@@ -8,11 +8,7 @@ ghost use Rattle.c_lexer.specs.WordTable.{are_placed, rows_of};
 /// The number of a word in a table.
 ///
 /// `positions` holds, at the slot of each word of the table, the position of the word's row.
-pub(crate) fn look_up(
-    table: &[(&[u8], u8)],
-    positions: &[u8; 256],
-    word: &[u8],
-) -> Option<u8>
+pub(crate) fn look_up(table: &[(&[u8], u8)], positions: &[u8; 256], word: &[u8]) -> Option<u8>
     requires some { 0 < length word.now }
     requires short { length word.now < 2 ^ 32 }
     requires within { IsTrue (list_all (λ at. nat_lt at (length table.now)) positions.now) }

@@ -1,6 +1,8 @@
 -- The tokens that are left from a place on.
 
-use Rattle.std.proofs.Common.{◌≡◌, ℕ, suc, zero, ◌+◌, ◌<◌, ◌≤◌, List, [], ◌∷◌, length, drop, get_or, refl, ap, sym, ◌∙◌, subst, arith}
+use Rattle.std.proofs.Common.{◌≡◌, ℕ, suc, zero, ◌+◌, ◌<◌, ◌≤◌, List, [], ◌∷◌, Some, None, length, drop, get_or, refl, ap, sym, ◌∙◌, subst, arith}
+use Rattle.std.specs.List.{slice_get}
+use Rattle.std.proofs.lemmas.Option.{get_or_from_slice_get, slice_get_within}
 use Rattle.c_lexer.specs.declared.token.Kind.{Kind}
 use Rattle.c_lexer.specs.declared.token.Token.{Token}
 use Rattle.c_tree.specs.Fits.{kinds_of}
@@ -29,15 +31,29 @@ here_is tokens at t h e =
     cut_from tokens 0 at t h e ∙
     (ap (λ (v : ℕ). (v, t.kind) ∷ rest (suc at)) first ∙ ap (λ (v : ℕ). (at, t.kind) ∷ rest v) next)
 
+-- The same, of a token that is looked up.
+pub there_is : (tokens : List Token) (at : ℕ) (t : Token) → slice_get tokens at ≡ Some t →
+    drop at (numbered 0 (kinds_of tokens)) ≡ (at, t.kind) ∷ drop (at + 1) (numbered 0 (kinds_of tokens))
+there_is tokens at t is = here_is tokens at t (slice_get_within tokens at t is) (sym (get_or_from_slice_get tokens at t t is))
+
 done_from : (tokens : List Token) (n at : ℕ) → length tokens ≤ at → drop at (numbered n (kinds_of tokens)) ≡ []
 done_from [] n zero h = refl
 done_from [] n (suc at) h = refl
 done_from (x ∷ tokens) n zero h = absurd (omega arith)
 done_from (x ∷ tokens) n (suc at) h = done_from tokens (n + 1) at (omega arith)
 
+past_end : (tokens : List Token) (at : ℕ) → slice_get tokens at ≡ None → length tokens ≤ at
+past_end [] at none = omega arith
+past_end (x ∷ tokens) zero none = absurd (cc)
+past_end (x ∷ tokens) (suc at) none = let later = past_end tokens at none in omega arith
+
 -- At the end no token is left.
 pub done_is : (tokens : List Token) (at : ℕ) → length tokens ≤ at → drop at (numbered 0 (kinds_of tokens)) ≡ []
 done_is tokens at h = done_from tokens 0 at h
+
+-- The same, where no token is found.
+pub none_is : (tokens : List Token) (at : ℕ) → slice_get tokens at ≡ None → drop at (numbered 0 (kinds_of tokens)) ≡ []
+none_is tokens at none = done_is tokens at (past_end tokens at none)
 
 some_left : (tokens : List Token) (n at : ℕ) → drop at (numbered n (kinds_of tokens)) ≡ [] → length tokens ≤ at
 some_left [] n at h = omega arith

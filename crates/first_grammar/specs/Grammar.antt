@@ -4,7 +4,9 @@
 use Rattle.std.specs.Prelude.{ℕ, ◌≡◌, ◌⊎◌, List, [], ◌∷◌}
 use Rattle.c_lexer.specs.declared.token.Kind.TheVariants.{Word, Key, Number, Mark}
 use Rattle.c_lexer.specs.declared.keyword.TheConstants.{KEY_INT, KEY_VOID}
-use Rattle.c_lexer.specs.declared.mark.TheConstants.{MARK_LEFT_PAREN, MARK_RIGHT_PAREN, MARK_LEFT_BRACE, MARK_RIGHT_BRACE, MARK_PLUS, MARK_SEMICOLON, MARK_EQUAL}
+use Rattle.c_lexer.specs.declared.mark.TheConstants.{MARK_LEFT_PAREN, MARK_RIGHT_PAREN}
+use Rattle.c_lexer.specs.declared.mark.TheConstants.{MARK_LEFT_BRACE, MARK_RIGHT_BRACE}
+use Rattle.c_lexer.specs.declared.mark.TheConstants.{MARK_PLUS, MARK_SEMICOLON, MARK_EQUAL}
 use Rattle.c_tree.specs.Forms.{basic, parameterless, name_operand, literal_operand}
 use Rattle.c_tree.specs.declared.tree.Item.{Item}
 use Rattle.c_tree.specs.declared.tree.Item.TheVariants.{Define}
@@ -43,12 +45,12 @@ AddendAt addend before after =
 abbrev pub BegunAt : List (Prefixed × ℕ) × Prefixed → Rest → Rest → Type 0
 BegunAt begun before after =
     (between : Rest) × Runs TargetAt begun.0 before between × OperandAt begun.1 between after
-    × (IsAt (Mark MARK_EQUAL) after → ⊥)
+    × (¬ IsAt (Mark MARK_EQUAL) after)
 
 -- The other operands. No further `+` follows.
 abbrev pub AddendsAt : List (ℕ × Prefixed) → Rest → Rest → Type 0
 AddendsAt addends before after =
-    Runs AddendAt addends before after × (IsAt (Mark MARK_PLUS) after → ⊥)
+    Runs AddendAt addends before after × (¬ IsAt (Mark MARK_PLUS) after)
 
 -- The statement of these parts.
 unfoldable pub statement : List (Prefixed × ℕ) → Prefixed → List (ℕ × Prefixed) → ℕ → BlockItem

@@ -10,5 +10,5 @@ abbrev pub Reads : {A : Type 0} → (A → Rest → Rest → Type 0) → Rest �
     Rest → Type 0
 Reads {A} Stands before (Ok part) after = Stands part before after
 Reads {A} Stands before (Err stop.Unbuilt) after =
-    (part : A) (end : Rest) → Stands part before end → ⊥
+    (part : A) (end : Rest) → ¬ Stands part before end
 Reads {A} Stands before (Err stop.Memory) after = Prim.Unit {0}

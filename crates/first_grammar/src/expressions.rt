@@ -26,7 +26,7 @@ fn add<T: Drop>(alloc: Global, list: &mut List<T>, item: T) -> Result<(), AllocE
 
 impl<'t> Cursor<'t> {
     /// An expression and `;`.
-    pub fn statement(&mut self) -> Result<BlockItem, GrammarStop>
+    pub(crate) fn statement(&mut self) -> Result<BlockItem, GrammarStop>
         ensures { Reads StatementAt self.old result self.new }
     {
         let (targets, first) = self.begin()?;

@@ -24,7 +24,7 @@ pub(crate) struct Head {
 
 impl<'t> Cursor<'t> {
     /// Functions, up to the end of the file.
-    pub fn items(&mut self) -> Result<List<Item>, GrammarStop>
+    pub(crate) fn items(&mut self) -> Result<List<Item>, GrammarStop>
         ensures { Reads ItemsAt self.old result self.new }
     {
         let mut items = List::new(self.alloc());

@@ -3,10 +3,12 @@
 ghost use Rattle.std.specs.Prelude.{◌≡◌, ◌≤◌, ◌<◌, ◌↔◌, IfOk, IsTrue, length, map, slice_range};
 ghost use Rattle.std.specs.List.{All};
 ghost use Rattle.c_lexer.specs.Reading.{IsWithin};
+ghost use Rattle.line_marks.specs.Kept.{ArePositionsIn, items_at};
 ghost use Rattle.first_grammar.specs.FirstUnit.{Differ, name_of, name_of_core};
 
 use c_lexer::Token;
 use c_tree::{Core, Item};
+use line_marks::item_at;
 use std::alloc::{AllocError, Global};
 use std::collections::BTreeSet;
 
@@ -15,37 +17,41 @@ pub(crate) fn function_names<'b>(
     alloc: Global,
     bytes: &'b [u8],
     tokens: &[Token],
+    kept: &[u32],
     items: &[Item],
 ) -> Result<Vec<&'b [u8]>, AllocError>
-    requires { All (IsWithin bytes.now) tokens.now }
-    ensures { IfOk result (λ names.
-        map (λ name. name.now) names.items ≡ map (name_of bytes.entry.now tokens.now) items.now) }
+    requires within { All (IsWithin bytes.now) tokens.now }
+    requires inside { ArePositionsIn tokens.now kept.now }
+    ensures { IfOk result (λ names. map (λ name. name.now) names.items ≡
+        map (name_of bytes.entry.now (items_at tokens.now kept.now)) items.now) }
 {
     let mut names = Vec::new(alloc);
     for item in items {
-        names.push(name_in(bytes, tokens, item))?;
+        names.push(name_in(bytes, tokens, kept, item))?;
     }
     Ok(names)
 }
 
 /// The name of a function.
-fn name_in<'b>(bytes: &'b [u8], tokens: &[Token], item: &Item) -> &'b [u8]
-    requires { All (IsWithin bytes.now) tokens.now }
-    ensures { result.now ≡ name_of bytes.entry.now tokens.now item.now }
+fn name_in<'b>(bytes: &'b [u8], tokens: &[Token], kept: &[u32], item: &Item) -> &'b [u8]
+    requires within { All (IsWithin bytes.now) tokens.now }
+    requires inside { ArePositionsIn tokens.now kept.now }
+    ensures { result.now ≡ name_of bytes.entry.now (items_at tokens.now kept.now) item.now }
 {
     match item {
-        Item::Define { declarator, .. } => text_of_core(bytes, tokens, &declarator.core),
+        Item::Define { declarator, .. } => text_of_core(bytes, tokens, kept, &declarator.core),
     }
 }
 
 /// The bytes of the name in a declarator, or none where there is no name.
-fn text_of_core<'b>(bytes: &'b [u8], tokens: &[Token], core: &Core) -> &'b [u8]
-    requires { All (IsWithin bytes.now) tokens.now }
-    ensures { result.now ≡ name_of_core bytes.entry.now tokens.now core.now }
+fn text_of_core<'b>(bytes: &'b [u8], tokens: &[Token], kept: &[u32], core: &Core) -> &'b [u8]
+    requires within { All (IsWithin bytes.now) tokens.now }
+    requires inside { ArePositionsIn tokens.now kept.now }
+    ensures { result.now ≡ name_of_core bytes.entry.now (items_at tokens.now kept.now) core.now }
 {
     match core {
-        Core::Name(number) => match tokens.get(*number as usize) {
-            Some(token) => text(bytes, token),
+        Core::Name(number) => match item_at(tokens, kept, *number as usize) {
+            Some(token) => text(bytes, &token),
             None => &[],
         },
         Core::Empty => &[],

@@ -10,7 +10,7 @@ pub enum GrammarStop {
     #[error("the file is not of a form that is read yet")]
     Unbuilt,
     /// There was no memory for the tree.
-    #[error("out of memory")]
+    #[error("want of memory")]
     Memory,
 }
 

@@ -1,84 +1,70 @@
 //! Files that are read and files that are not, and the trees of two of them.
 
-ghost use Rattle.std.specs.Prelude.{◌<◌, length, IfOk};
-ghost use Rattle.std.specs.List.{All};
-ghost use Rattle.c_lexer.specs.Reading.{IsWithin};
+ghost use Rattle.std.specs.Prelude.{◌<◌, length};
 
 use crate::{GrammarStop, read_unit};
 use c_lexer::laws::law_within_the_text;
 use c_lexer::mark::{
     MARK_LEFT_BRACE, MARK_LEFT_PAREN, MARK_RIGHT_BRACE, MARK_RIGHT_PAREN, MARK_SEMICOLON,
 };
-use c_lexer::{LexStop, Token, lex};
-use c_tree::{BaseForm, BlockItem, Item, Slot, StmtKind, Want, spell};
+use c_lexer::{SourceText, lex};
+use c_tree::{BaseForm, BlockItem, Item, Slot, StmtKind, Unit, Want, spell};
+use line_marks::laws::law_kept_positions;
+use line_marks::strip;
 use std::alloc::Global;
 use std::test::Fail;
 
-/// The tokens of a short text, which stand in it.
-fn tokens_of(alloc: Global, text: &[u8]) -> Result<Vec<Token>, LexStop>
-    requires { length text.now < 100 }
-    ensures few { IfOk result (λ tokens. length tokens.items < 100) }
-    ensures within { IfOk result (λ tokens. All (IsWithin text.now) tokens.items) }
+/// What is read of a short text.
+fn read(alloc: Global, bytes: &[u8]) -> Result<Result<Unit, GrammarStop>, Fail>
+    requires { length bytes.now < 100 }
 {
     law_within_the_text();
-    lex(alloc, text)
+    law_kept_positions();
+    let text = SourceText { bytes };
+    let tokens = lex(alloc, text)?;
+    let kept = strip(alloc, &tokens)?;
+    Ok(read_unit(alloc, text, &tokens, &kept))
 }
 
 #[test]
 fn a_file_of_functions_of_sums_and_assignments_is_read(rt: HostRuntime) -> Result<(), Fail> {
-    for text in [
-        b"".as_slice(),
-        b"int f(void){}".as_slice(),
-        b"int f(void){x;}".as_slice(),
-        b"int f(void){1;2;}".as_slice(),
-        b"int f(void){x=1;}".as_slice(),
-        b"int f(void){a=b=1+c;}".as_slice(),
-        b"int f(void){1=2;f;}".as_slice(),
-        b"int f(void){} int g(void){f+g+f;}".as_slice(),
+    for (text, is_read) in [
+        (b"".as_slice(), true),
+        (b"int f(void){}".as_slice(), true),
+        (b"# 1 \"a.c\"\nint f(void) __asm__(\"g\") {1;2;}".as_slice(), true),
+        (b"int f(void){a=b=1+c;}".as_slice(), true),
+        (b"int f(void){1=2;f;}".as_slice(), true),
+        (b"int f(void){} int g(void){f+g+f;}".as_slice(), true),
+        (b"int f(void){} int g(void){} int f(void){x;}".as_slice(), false),
+        (b"char f(void){}".as_slice(), false),
+        (b"int f(int){}".as_slice(), false),
+        (b"int f(){}".as_slice(), false),
+        (b"int f(void);".as_slice(), false),
+        (b"int f(void){".as_slice(), false),
+        (b"int f(void){}}".as_slice(), false),
+        (b"int f(void){;}".as_slice(), false),
+        (b"int f(void){x}".as_slice(), false),
+        (b"int f(void){a+b=c;}".as_slice(), false),
+        (b"int f(void){a+;}".as_slice(), false),
+        (b"int f(void){a b;}".as_slice(), false),
     ] {
         assert!(rt; text.len() < 100);
-        let tokens = tokens_of(rt.alloc(), text)?;
-        assert!(rt; read_unit(rt.alloc(), text, &tokens).is_ok());
+        match read(rt.alloc(), text)? {
+            Ok(_) => assert!(rt; is_read),
+            Err(stop) => {
+                assert_eq!(rt; stop, GrammarStop::Unbuilt);
+                assert!(rt; !is_read);
+            }
+        }
     }
     Ok(())
 }
 
+// `__extension__ int f(void){x=1;}`: the tree's numbers count the kept tokens, of which `int` is the
+// first.
 #[test]
-fn a_file_of_another_form_is_refused(rt: HostRuntime) -> Result<(), Fail> {
-    for text in [
-        b"int f(void){} int f(void){}".as_slice(),
-        b"int f(void){} int g(void){} int f(void){x;}".as_slice(),
-        b"char f(void){}".as_slice(),
-        b"int f(int){}".as_slice(),
-        b"int f(){}".as_slice(),
-        b"int f(void);".as_slice(),
-        b"int f(void){".as_slice(),
-        b"int f(void){}}".as_slice(),
-        b"int int(void){}".as_slice(),
-        b"int f(void){;}".as_slice(),
-        b"int f(void){x}".as_slice(),
-        b"int f(void){a+b=c;}".as_slice(),
-        b"int f(void){a=;}".as_slice(),
-        b"int f(void){a+;}".as_slice(),
-        b"int f(void){a b;}".as_slice(),
-        b"int f(void){(a);}".as_slice(),
-        b"int f(void){{}}".as_slice(),
-        b"x;".as_slice(),
-    ] {
-        assert!(rt; text.len() < 100);
-        let tokens = tokens_of(rt.alloc(), text)?;
-        let stop = read_unit(rt.alloc(), text, &tokens).err();
-        assert_eq!(rt; stop, Some(GrammarStop::Unbuilt));
-    }
-    Ok(())
-}
-
-// int f(void){x=1;}
-#[test]
-fn a_tree_spells_the_tokens_of_its_file(rt: HostRuntime) -> Result<(), Fail> {
-    let text = b"int f(void){x=1;}";
-    let tokens = tokens_of(rt.alloc(), text)?;
-    let unit = read_unit(rt.alloc(), text, &tokens)?;
+fn a_tree_spells_the_kept_tokens_of_its_file(rt: HostRuntime) -> Result<(), Fail> {
+    let unit = read(rt.alloc(), b"__extension__ int f(void){x=1;}")??;
     let symbols = spell(rt.alloc(), &unit)?;
     let wants = [
         Want::Among(Slot::Basic),
@@ -101,12 +87,10 @@ fn a_tree_spells_the_tokens_of_its_file(rt: HostRuntime) -> Result<(), Fail> {
     Ok(())
 }
 
-// int f(void){a=b=1+c;}
+// In `int f(void){a=b=1+c;}` tokens 7 and 9 are `=`, token 10 is `1` and token 11 is `+`.
 #[test]
 fn what_stands_before_an_equal_sign_is_a_target(rt: HostRuntime) -> Result<(), Fail> {
-    let text = b"int f(void){a=b=1+c;}";
-    let tokens = tokens_of(rt.alloc(), text)?;
-    let unit = read_unit(rt.alloc(), text, &tokens)?;
+    let unit = read(rt.alloc(), b"int f(void){a=b=1+c;}")??;
     let items = unit.items.items();
     assert_eq!(rt; items.len(), 1);
     let Item::Define { body, .. } = &items[0];
@@ -126,19 +110,5 @@ fn what_stands_before_an_equal_sign_is_a_target(rt: HostRuntime) -> Result<(), F
     assert!(rt; is_one);
     let pluses = value.rest.items().iter().map(|addend| addend.0);
     assert!(rt; pluses.eq([11]));
-    Ok(())
-}
-
-#[test]
-fn a_stop_prints_its_cause(rt: HostRuntime) -> Result<(), Fail> {
-    for (stop, want) in [
-        (
-            GrammarStop::Unbuilt,
-            "the file is not of a form that is read yet",
-        ),
-        (GrammarStop::Memory, "out of memory"),
-    ] {
-        assert_eq!(rt; stop.to_string(rt.alloc())?.as_str(), want);
-    }
     Ok(())
 }

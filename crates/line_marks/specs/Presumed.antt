@@ -30,7 +30,8 @@ pub record Presumption : Type 0 where
 abbrev pub first_presumption : List ℕ → Presumption
 first_presumption name = record { file = name; from = 1; line = 1 }
 
--- A marker speaks of the line after it. Without a file's name it keeps the presumed file (6.10.4p3).
+-- A marker speaks of the line after it. Without a file's name it keeps the presumed file
+-- (6.10.4p3).
 abbrev pub behind : Presumption → Token → Option Said → Presumption
 behind before token None = before
 behind before token (Some said) = record {

@@ -17,10 +17,10 @@ returns-then-continues_mark c = record {
 pub returns-in-Some-mark_of : goal.returns-in-Some-mark_of
 returns-in-Some-mark_of c =
     let none : NoneLonger c.args.text.bytes.now c.args.at (c.args.at + 2) = none_past_two c.args.text.bytes.now c.args.at
-        (elim c.else-left-ge3.branch [
-          | else-left-ge3-via-else-left-ge3 w ↦ λ l. absurd (let few = w.if-left-ge3.false in omega arith)
-          | else-left-ge3-via-then-left-ge3+in-None-1 w ↦ λ l. Finds-at_none _ w.mark_of.result (search rules) w.mark_of.ensures
-        ]) in
+    (elim c.else-left-ge3.branch [
+      | else-left-ge3-via-else-left-ge3 w ↦ λ l. absurd (let few = w.if-left-ge3.false in omega arith)
+      | else-left-ge3-via-then-left-ge3+in-None-1 w ↦ λ l. Finds-at_none _ w.mark_of.result (search rules) w.mark_of.ensures
+    ]) in
     record {
       some = omega arith;
       within = omega arith;

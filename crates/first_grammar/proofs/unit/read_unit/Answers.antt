@@ -3,6 +3,7 @@ use Rattle.std.proofs.lemmas.Grind.{common_steps}
 use Rattle.std.proofs.lemmas.Result.{err_from_is_err_and}
 use Rattle.std.specs.Borrow.{Bor}
 use Rattle.c_tree.specs.Fits.{kinds_of}
+use Rattle.line_marks.specs.Kept.{items_at}
 use Rattle.first_grammar.specs.Rest.{Rest, numbered}
 use Rattle.first_grammar.specs.Reads.{Reads}
 use Rattle.first_grammar.specs.FirstUnit.{Differ, name_of}
@@ -14,20 +15,20 @@ use Rattle.first_grammar.proofs.Outward.{items_out}
 use Rattle.first_grammar.proofs.Unique.{items_unique}
 use Rattle.first_grammar.proofs.unit.read_unit.Goals as goal
 
-pub returns-in_err-items-clause-refuses : goal.returns-in_err-items-clause-refuses
-returns-in_err-items-clause-refuses c = λ stop unit h.
+pub returns-in_err-items-clause-unbuilt : goal.returns-in_err-items-clause-unbuilt
+returns-in_err-items-clause-unbuilt c = λ stop unit h.
     let err = err_from_is_err_and c.from_residual.result c.from_residual.ensures.1 in
     let is : c.in_err-items.field-0.0 ≡ Unbuilt = cc (err.1, err.2, stop) in
-    let here : Rest = numbered 0 (kinds_of c.args.tokens.now) in
+    let tokens = items_at c.args.tokens.now c.args.kept.now in
     let refused = subst (λ (s : GrammarStop). Reads ItemsAt c.new.result (Err s) c.items.new.self) is
     c.in_err-items.ensures in
     refused unit.items [] (subst (λ (r : Rest). ItemsAt unit.items r []) (sym c.new.ensures)
-    (unit_in c.args.bytes.now c.args.tokens.now unit h))
+    (unit_in c.args.text.bytes.now tokens unit h))
 
-pub returns-then-not-branch-clause-refuses : goal.returns-then-not-branch-clause-refuses
-returns-then-not-branch-clause-refuses c = λ stop unit h.
-    let bytes = c.args.bytes.now in
-    let tokens = c.args.tokens.now in
+pub returns-then-not-branch-clause-unbuilt : goal.returns-then-not-branch-clause-unbuilt
+returns-then-not-branch-clause-unbuilt c = λ stop unit h.
+    let bytes = c.args.text.bytes.now in
+    let tokens = items_at c.args.tokens.now c.args.kept.now in
     let read = subst (λ (r : Rest). ItemsAt c.in_ok-items.items r c.items.new.self) c.new.ensures
     c.in_ok-items.ensures in
     let same = items_unique unit.items c.in_ok-items.items (numbered 0 (kinds_of tokens)) [] c.items.new.self
@@ -39,10 +40,10 @@ returns-then-not-branch-clause-refuses c = λ stop unit h.
     let yes = c.in_ok-names_differ.ensures.1 differ in
     absurd (cc (yes, c.if-not-branch.true))
 
-pub returns-clause-accepts : goal.returns-clause-accepts
-returns-clause-accepts c =
-    let bytes = c.args.bytes.now in
-    let tokens = c.args.tokens.now in
+pub returns-clause-ok : goal.returns-clause-ok
+returns-clause-ok c =
+    let bytes = c.args.text.bytes.now in
+    let tokens = items_at c.args.tokens.now c.args.kept.now in
     let read = subst (λ (r : Rest). ItemsAt c.in_ok-items.items r c.items.new.self) c.new.ensures
     c.in_ok-items.ensures in
     let out = items_out (kinds_of tokens) c.in_ok-items.items c.items.new.self read in

@@ -41,7 +41,7 @@ kept_to tokens xs at end strips = record {
 }
 
 pub returns-clause-refuses : goal.returns-clause-refuses
-returns-clause-refuses c = λ at stops. 
+returns-clause-refuses c = λ at stops.
     absurd (not_both c.args.tokens.now c.loop-kind.kept.items at
     (kept_to c.args.tokens.now c.loop-kind.kept.items c.loop-kind.at (sym c.in_default.ensures.kind)
     (c.loop-kind.invariant [] c.loop-kind.at (kept.Strips.ends (sym c.in_default.ensures.kind)))) stops)
