@@ -4,7 +4,9 @@ use Rattle.std.proofs.Common.{List, [], ◌∷◌, refl, inl, lit<}
 use Rattle.c_lexer.specs.declared.token.Kind.{Kind}
 use Rattle.c_lexer.specs.declared.token.Kind.TheVariants as k
 use Rattle.c_lexer.specs.declared.keyword.TheConstants.{KEY_INT, KEY_VOID}
-use Rattle.c_lexer.specs.declared.mark.TheConstants.{MARK_LEFT_PAREN, MARK_RIGHT_PAREN, MARK_LEFT_BRACE, MARK_RIGHT_BRACE, MARK_SEMICOLON, MARK_EQUAL}
+use Rattle.c_lexer.specs.declared.mark.TheConstants.{MARK_LEFT_PAREN, MARK_RIGHT_PAREN}
+use Rattle.c_lexer.specs.declared.mark.TheConstants.{MARK_LEFT_BRACE, MARK_RIGHT_BRACE}
+use Rattle.c_lexer.specs.declared.mark.TheConstants.{MARK_SEMICOLON, MARK_EQUAL}
 use Rattle.c_tree.specs.Fits.{Spells}
 use Rattle.c_tree.specs.Forms.{basic, parameterless, name_operand, literal_operand}
 use Rattle.c_tree.specs.declared.tree.Unit.{Unit}

@@ -1,6 +1,7 @@
 -- Symbols that follow each other have tokens that follow each other.
 
-use Rattle.std.proofs.Common.{◌≡◌, ℕ, ◌+◌, List, [], ◌∷◌, ◌++◌, length, refl, ap, ◌∙◌, subst, arith, zero, suc, Some, slice_get}
+use Rattle.std.proofs.Common.{◌≡◌, ℕ, ◌+◌, List, [], ◌∷◌, ◌++◌, length, refl, ap, ◌∙◌, subst, arith}
+use Rattle.std.proofs.Common.{zero, suc, Some, slice_get}
 use Rattle.c_lexer.specs.declared.token.Kind.{Kind}
 use Rattle.c_tree.specs.Fits.{Fits, FitFrom}
 use Rattle.c_tree.specs.declared.symbol.Symbol.{Symbol}
@@ -50,7 +51,7 @@ length_fit at [] (kind ∷ kinds) h = absurd h
 length_fit at (symbol ∷ symbols) [] h = absurd h
 length_fit at (symbol ∷ symbols) (kind ∷ kinds) h = omega (arith, length_fit (at + 1) symbols kinds h.2)
 
--- The symbol at a place has the token at that place, which is what the symbol wants.
+-- The symbol at a position has the token of that number, which is what the symbol wants.
 pub fits_at : (at : ℕ) (symbols : Symbols) (kinds : List Kind) → FitFrom at symbols kinds →
     (i : ℕ) (symbol : Symbol) (kind : Kind) → slice_get symbols i ≡ Some symbol →
     slice_get kinds i ≡ Some kind → (symbol.token ≡ at + i) × Fits symbol.want kind

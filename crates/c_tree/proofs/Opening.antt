@@ -1,7 +1,8 @@
 -- The laws by which a level of a tree opens, by the files of the code.
 
 use Rattle.std.proofs.Common.{append_assoc, append-nil}
-use Rattle.c_tree.proofs.Spellings.{unit_spelling_lem, declaration_laws, statement_laws, expression_laws}
+use Rattle.c_tree.proofs.Spellings.{unit_spelling_lem, declaration_laws, statement_laws}
+use Rattle.c_tree.proofs.Spellings.{expression_laws}
 use Rattle.c_tree.proofs.Weights.{declaration_weights, statement_weights, expression_weights}
 
 pub ruleset opens_unit = (append_assoc, append-nil, unit_spelling_lem)

@@ -1,10 +1,19 @@
 -- What a tree spells, by its fields; one law for each type.
 
-use Rattle.std.proofs.Common.{◌≡◌, ℕ, List, [], ◌++◌, map, refl, sym, ap, ◌∙◌, drop, append_assoc, append-nil}
+use Rattle.std.proofs.Common.{◌≡◌, ℕ, List, [], ◌++◌, map, refl, sym, ap, ◌∙◌, drop, append_assoc}
+use Rattle.std.proofs.Common.{append-nil}
 use Rattle.std.specs.List.{flat_map, slice_get}
 use Rattle.std.proofs.lemmas.List.Folds.{flat_map-map}
-use Rattle.c_lexer.specs.declared.mark.TheConstants.{MARK_LEFT_PAREN, MARK_RIGHT_PAREN, MARK_LEFT_BRACE, MARK_RIGHT_BRACE, MARK_SEMICOLON, MARK_COMMA}
-use Rattle.c_tree.specs.Spell.{Symbols, wanted, mark_of, parts_then, literal_spelling, declarator_level, suffix_level, param_level, spec_spelling, specs_spelling, core_spelling, declarator_spelling, suffix_spelling, param_spelling, base_form_spelling, base_spelling, prefixed_spelling, operand_spelling, binary_spelling, cond_spelling, target_spelling, assign_spelling, expr_spelling, stmt_kind_spelling, stmt_spelling, block_item_spelling, block_spelling, item_spelling, unit_spelling}
+use Rattle.c_lexer.specs.declared.mark.TheConstants.{MARK_LEFT_PAREN, MARK_RIGHT_PAREN}
+use Rattle.c_lexer.specs.declared.mark.TheConstants.{MARK_LEFT_BRACE, MARK_RIGHT_BRACE}
+use Rattle.c_lexer.specs.declared.mark.TheConstants.{MARK_SEMICOLON, MARK_COMMA}
+use Rattle.c_tree.specs.Spell.{Symbols, wanted, mark_of, parts_then, literal_spelling}
+use Rattle.c_tree.specs.Spell.{declarator_level, suffix_level, param_level, spec_spelling}
+use Rattle.c_tree.specs.Spell.{specs_spelling, core_spelling, declarator_spelling, suffix_spelling}
+use Rattle.c_tree.specs.Spell.{param_spelling, base_form_spelling, base_spelling, prefixed_spelling}
+use Rattle.c_tree.specs.Spell.{operand_spelling, binary_spelling, cond_spelling, target_spelling}
+use Rattle.c_tree.specs.Spell.{assign_spelling, expr_spelling, stmt_kind_spelling, stmt_spelling}
+use Rattle.c_tree.specs.Spell.{block_item_spelling, block_spelling, item_spelling, unit_spelling}
 use Rattle.c_tree.specs.declared.symbol.Want.TheVariants.{Word, Among}
 use Rattle.c_tree.specs.declared.symbol.Slot.TheVariants.{Basic, AssignOp, BinaryOp}
 use Rattle.c_tree.specs.declared.tree.Unit.{Unit}

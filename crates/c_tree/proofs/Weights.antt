@@ -1,7 +1,13 @@
 -- How much work a part of a tree is, by its fields; one law for each type.
 
 use Rattle.std.proofs.Common.{◌≡◌, ℕ, ◌+◌, List, map, refl, sym, ap, ◌∙◌}
-use Rattle.c_tree.specs.Walk.{listed, marked, texts_weight, declarator_weight_level, suffix_weight_level, param_weight_level, spec_weight, specs_weight, core_weight, declarator_weight, suffix_weight, param_weight, base_form_weight, base_weight, prefixed_weight, operand_weight, binary_weight, cond_weight, target_weight, assign_weight, expr_weight, stmt_kind_weight, stmt_weight, block_item_weight, block_weight, item_weight}
+use Rattle.c_tree.specs.Walk.{listed, marked, texts_weight, declarator_weight_level}
+use Rattle.c_tree.specs.Walk.{suffix_weight_level, param_weight_level, spec_weight, specs_weight}
+use Rattle.c_tree.specs.Walk.{core_weight, declarator_weight, suffix_weight, param_weight}
+use Rattle.c_tree.specs.Walk.{base_form_weight, base_weight, prefixed_weight, operand_weight}
+use Rattle.c_tree.specs.Walk.{binary_weight, cond_weight, target_weight, assign_weight, expr_weight}
+use Rattle.c_tree.specs.Walk.{stmt_kind_weight, stmt_weight, block_item_weight, block_weight}
+use Rattle.c_tree.specs.Walk.{item_weight}
 use Rattle.c_tree.specs.declared.tree.Item.TheVariants as item
 use Rattle.c_tree.specs.declared.tree.Specs.{Specs}
 use Rattle.c_tree.specs.declared.tree.Spec.{Spec}

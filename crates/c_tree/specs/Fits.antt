@@ -5,8 +5,30 @@ use Rattle.std.specs.List.{Contains}
 use Rattle.c_lexer.specs.declared.token.Kind.{Kind}
 use Rattle.c_lexer.specs.declared.token.Kind.TheVariants as k
 use Rattle.c_lexer.specs.declared.token.Token.{Token}
-use Rattle.c_lexer.specs.declared.keyword.TheConstants.{KEY_AUTO, KEY_CHAR, KEY_CONST, KEY_DOUBLE, KEY_EXTERN, KEY_FLOAT, KEY_INLINE, KEY_INT, KEY_LONG, KEY_REGISTER, KEY_RESTRICT, KEY_SHORT, KEY_SIGNED, KEY_SIZEOF, KEY_STATIC, KEY_STRUCT, KEY_TYPEDEF, KEY_UNION, KEY_UNSIGNED, KEY_VOID, KEY_VOLATILE, KEY_ALIGNOF, KEY_ATOMIC, KEY_BOOL, KEY_COMPLEX, KEY_NORETURN, KEY_THREAD_LOCAL, KEY_BUILTIN_VA_LIST, KEY_FLOAT32, KEY_FLOAT64, KEY_FLOAT128, KEY_FLOAT32X, KEY_FLOAT64X, KEY_INT128}
-use Rattle.c_lexer.specs.declared.mark.TheConstants.{MARK_PLUS_PLUS, MARK_MINUS_MINUS, MARK_AMPERSAND, MARK_STAR, MARK_PLUS, MARK_MINUS, MARK_TILDE, MARK_EXCLAMATION, MARK_SLASH, MARK_PERCENT, MARK_LEFT_SHIFT, MARK_RIGHT_SHIFT, MARK_LESS, MARK_GREATER, MARK_LESS_EQUAL, MARK_GREATER_EQUAL, MARK_EQUAL_EQUAL, MARK_NOT_EQUAL, MARK_CARET, MARK_BAR, MARK_AND_AND, MARK_OR_OR, MARK_EQUAL, MARK_STAR_EQUAL, MARK_SLASH_EQUAL, MARK_PERCENT_EQUAL, MARK_PLUS_EQUAL, MARK_MINUS_EQUAL, MARK_LEFT_SHIFT_EQUAL, MARK_RIGHT_SHIFT_EQUAL, MARK_AMPERSAND_EQUAL, MARK_CARET_EQUAL, MARK_BAR_EQUAL}
+use Rattle.c_lexer.specs.declared.keyword.TheConstants.{KEY_AUTO, KEY_CHAR, KEY_CONST, KEY_DOUBLE}
+use Rattle.c_lexer.specs.declared.keyword.TheConstants.{KEY_EXTERN, KEY_FLOAT, KEY_INLINE, KEY_INT}
+use Rattle.c_lexer.specs.declared.keyword.TheConstants.{KEY_LONG, KEY_REGISTER, KEY_RESTRICT}
+use Rattle.c_lexer.specs.declared.keyword.TheConstants.{KEY_SHORT, KEY_SIGNED, KEY_SIZEOF}
+use Rattle.c_lexer.specs.declared.keyword.TheConstants.{KEY_STATIC, KEY_STRUCT, KEY_TYPEDEF}
+use Rattle.c_lexer.specs.declared.keyword.TheConstants.{KEY_UNION, KEY_UNSIGNED, KEY_VOID}
+use Rattle.c_lexer.specs.declared.keyword.TheConstants.{KEY_VOLATILE, KEY_ALIGNOF, KEY_ATOMIC}
+use Rattle.c_lexer.specs.declared.keyword.TheConstants.{KEY_BOOL, KEY_COMPLEX, KEY_NORETURN}
+use Rattle.c_lexer.specs.declared.keyword.TheConstants.{KEY_THREAD_LOCAL, KEY_BUILTIN_VA_LIST}
+use Rattle.c_lexer.specs.declared.keyword.TheConstants.{KEY_FLOAT32, KEY_FLOAT64, KEY_FLOAT128}
+use Rattle.c_lexer.specs.declared.keyword.TheConstants.{KEY_FLOAT32X, KEY_FLOAT64X, KEY_INT128}
+use Rattle.c_lexer.specs.declared.mark.TheConstants.{MARK_PLUS_PLUS, MARK_MINUS_MINUS}
+use Rattle.c_lexer.specs.declared.mark.TheConstants.{MARK_AMPERSAND, MARK_STAR, MARK_PLUS}
+use Rattle.c_lexer.specs.declared.mark.TheConstants.{MARK_MINUS, MARK_TILDE, MARK_EXCLAMATION}
+use Rattle.c_lexer.specs.declared.mark.TheConstants.{MARK_SLASH, MARK_PERCENT, MARK_LEFT_SHIFT}
+use Rattle.c_lexer.specs.declared.mark.TheConstants.{MARK_RIGHT_SHIFT, MARK_LESS, MARK_GREATER}
+use Rattle.c_lexer.specs.declared.mark.TheConstants.{MARK_LESS_EQUAL, MARK_GREATER_EQUAL}
+use Rattle.c_lexer.specs.declared.mark.TheConstants.{MARK_EQUAL_EQUAL, MARK_NOT_EQUAL, MARK_CARET}
+use Rattle.c_lexer.specs.declared.mark.TheConstants.{MARK_BAR, MARK_AND_AND, MARK_OR_OR, MARK_EQUAL}
+use Rattle.c_lexer.specs.declared.mark.TheConstants.{MARK_STAR_EQUAL, MARK_SLASH_EQUAL}
+use Rattle.c_lexer.specs.declared.mark.TheConstants.{MARK_PERCENT_EQUAL, MARK_PLUS_EQUAL}
+use Rattle.c_lexer.specs.declared.mark.TheConstants.{MARK_MINUS_EQUAL, MARK_LEFT_SHIFT_EQUAL}
+use Rattle.c_lexer.specs.declared.mark.TheConstants.{MARK_RIGHT_SHIFT_EQUAL, MARK_AMPERSAND_EQUAL}
+use Rattle.c_lexer.specs.declared.mark.TheConstants.{MARK_CARET_EQUAL, MARK_BAR_EQUAL}
 use Rattle.c_tree.specs.declared.symbol.Want.{Want}
 use Rattle.c_tree.specs.declared.symbol.Want.TheVariants as want
 use Rattle.c_tree.specs.declared.symbol.Slot.{Slot}
@@ -73,18 +95,18 @@ MayStand slot.Storage kind = IsKeyAmong storage_classes kind
 MayStand slot.Function kind = IsKeyAmong function_specifiers kind
 MayStand slot.Qualifier kind = IsKeyAmong qualifiers kind
 MayStand slot.Basic kind = IsKeyAmong type_specifiers kind
--- `struct` and `union` (6.7.2.1)
+-- `struct` and `union` (6.7.2.1).
 MayStand slot.RecordKey kind = IsKeyAmong (KEY_STRUCT ∷ KEY_UNION ∷ []) kind
--- `static` and type qualifiers (6.7.6.2)
+-- `static` and type qualifiers (6.7.6.2).
 MayStand slot.ArrayWord kind = IsKeyAmong (KEY_STATIC ∷ qualifiers) kind
 MayStand slot.AssignOp kind = IsMarkAmong assignment_operators kind
 MayStand slot.BinaryOp kind = IsMarkAmong binary_operators kind
--- a mark, or `sizeof` before an expression (6.5.3)
+-- A mark, or `sizeof` before an expression (6.5.3).
 MayStand slot.PrefixOp kind = IsMarkAmong prefix_operators kind ⊎ (kind ≡ k.Key KEY_SIZEOF)
 MayStand slot.Step kind = IsMarkAmong steps kind
--- `sizeof` and `_Alignof` before a type name (6.5.3.4)
+-- `sizeof` and `_Alignof` before a type name (6.5.3.4).
 MayStand slot.SizeKey kind = IsKeyAmong (KEY_SIZEOF ∷ KEY_ALIGNOF ∷ []) kind
--- a constant or a string literal (6.5.1)
+-- A constant or a string literal (6.5.1).
 MayStand slot.Literal kind = (kind ≡ k.Number) ⊎ (kind ≡ k.Char) ⊎ (kind ≡ k.Text)
 
 -- A token of the kind is what is wanted.

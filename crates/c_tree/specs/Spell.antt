@@ -4,7 +4,9 @@
 
 use Rattle.std.specs.Prelude.{ℕ, List, [], ◌∷◌, ◌++◌, Option, Some, None, drop, slice_get}
 use Rattle.std.specs.List.{flat_map}
-use Rattle.c_lexer.specs.declared.mark.TheConstants.{MARK_LEFT_PAREN, MARK_RIGHT_PAREN, MARK_LEFT_BRACE, MARK_RIGHT_BRACE, MARK_SEMICOLON, MARK_COMMA}
+use Rattle.c_lexer.specs.declared.mark.TheConstants.{MARK_LEFT_PAREN, MARK_RIGHT_PAREN}
+use Rattle.c_lexer.specs.declared.mark.TheConstants.{MARK_LEFT_BRACE, MARK_RIGHT_BRACE}
+use Rattle.c_lexer.specs.declared.mark.TheConstants.{MARK_SEMICOLON, MARK_COMMA}
 use Rattle.c_tree.specs.declared.symbol.Symbol.{Symbol}
 use Rattle.c_tree.specs.declared.symbol.Want.{Want}
 use Rattle.c_tree.specs.declared.symbol.Want.TheVariants.{Word, Text, Mark, Among}

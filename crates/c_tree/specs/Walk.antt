@@ -3,7 +3,12 @@
 use Rattle.std.specs.Prelude.{ℕ, ◌+◌, List, [], ◌∷◌, ◌++◌, map}
 use Rattle.std.specs.List.{flat_map}
 use Rattle.c_lexer.specs.declared.mark.TheConstants.{MARK_RIGHT_PAREN, MARK_COMMA}
-use Rattle.c_tree.specs.Spell.{Symbols, wanted, others_then, spec_spelling, specs_spelling, core_spelling, declarator_spelling, suffix_spelling, param_spelling, base_form_spelling, base_spelling, prefixed_spelling, operand_spelling, binary_spelling, cond_spelling, target_spelling, assign_spelling, expr_spelling, stmt_kind_spelling, stmt_spelling, block_item_spelling, block_spelling, item_spelling}
+use Rattle.c_tree.specs.Spell.{Symbols, wanted, others_then, spec_spelling, specs_spelling}
+use Rattle.c_tree.specs.Spell.{core_spelling, declarator_spelling, suffix_spelling, param_spelling}
+use Rattle.c_tree.specs.Spell.{base_form_spelling, base_spelling, prefixed_spelling}
+use Rattle.c_tree.specs.Spell.{operand_spelling, binary_spelling, cond_spelling, target_spelling}
+use Rattle.c_tree.specs.Spell.{assign_spelling, expr_spelling, stmt_kind_spelling, stmt_spelling}
+use Rattle.c_tree.specs.Spell.{block_item_spelling, block_spelling, item_spelling}
 use Rattle.c_tree.specs.declared.symbol.Want.TheVariants.{Text}
 use Rattle.c_tree.specs.declared.pending.Part.{Part}
 use Rattle.c_tree.specs.declared.pending.Part.TheVariants as part

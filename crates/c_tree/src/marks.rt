@@ -2,11 +2,11 @@
 
 ghost use Rattle.std.specs.Prelude.{◌≡◌, drop, slice_get};
 
-/// The mark at the place, if it is there.
-pub(crate) fn mark_at(marks: &[u32], place: usize) -> Option<u32>
-    ensures { result ≡ slice_get marks.now place }
+/// The mark at the position, if it is there.
+pub(crate) fn mark_at(marks: &[u32], position: usize) -> Option<u32>
+    ensures { result ≡ slice_get marks.now position }
 {
-    marks.get(place).copied()
+    marks.get(position).copied()
 }
 
 /// The marks after the first.

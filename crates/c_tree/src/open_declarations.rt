@@ -2,8 +2,11 @@
 
 ghost use Rattle.std.specs.Prelude.{◌≡◌, ◌+◌, ◌<◌, ◌≤◌, ◌++◌, map, OnOk};
 ghost use Rattle.std.specs.List.{flat_map};
-ghost use Rattle.c_tree.specs.Spell.{others_then, parts_then, spec_spelling, specs_spelling, core_spelling, declarator_spelling, suffix_spelling, param_spelling, item_spelling};
-ghost use Rattle.c_tree.specs.Walk.{listed, marked, spec_weight, specs_weight, core_weight, declarator_weight, suffix_weight, param_weight, item_weight};
+ghost use Rattle.c_tree.specs.Spell.{others_then, parts_then, spec_spelling, specs_spelling};
+ghost use Rattle.c_tree.specs.Spell.{core_spelling, declarator_spelling, suffix_spelling};
+ghost use Rattle.c_tree.specs.Spell.{param_spelling, item_spelling};
+ghost use Rattle.c_tree.specs.Walk.{listed, marked, spec_weight, specs_weight, core_weight};
+ghost use Rattle.c_tree.specs.Walk.{declarator_weight, suffix_weight, param_weight, item_weight};
 
 use crate::marks::{after_first, mark_at};
 use crate::pending::{Part, Pending};

@@ -2,8 +2,12 @@
 
 ghost use Rattle.std.specs.Prelude.{◌≡◌, ◌+◌, ◌<◌, ◌++◌, map, OnOk};
 ghost use Rattle.std.specs.List.{flat_map};
-ghost use Rattle.c_tree.specs.Spell.{wanted, base_form_spelling, base_spelling, prefixed_spelling, operand_spelling, binary_spelling, cond_spelling, target_spelling, assign_spelling, expr_spelling};
-ghost use Rattle.c_tree.specs.Walk.{listed, texts_weight, base_form_weight, base_weight, prefixed_weight, operand_weight, binary_weight, cond_weight, target_weight, assign_weight, expr_weight};
+ghost use Rattle.c_tree.specs.Spell.{wanted, base_form_spelling, base_spelling, prefixed_spelling};
+ghost use Rattle.c_tree.specs.Spell.{operand_spelling, binary_spelling, cond_spelling};
+ghost use Rattle.c_tree.specs.Spell.{target_spelling, assign_spelling, expr_spelling};
+ghost use Rattle.c_tree.specs.Walk.{listed, texts_weight, base_form_weight, base_weight};
+ghost use Rattle.c_tree.specs.Walk.{prefixed_weight, operand_weight, binary_weight, cond_weight};
+ghost use Rattle.c_tree.specs.Walk.{target_weight, assign_weight, expr_weight};
 
 use crate::pending::{Part, Pending};
 use crate::symbol::{Slot, Want};

@@ -2,8 +2,10 @@
 
 ghost use Rattle.std.specs.Prelude.{◌≡◌, ◌+◌, ◌<◌, ◌++◌, map, OnOk};
 ghost use Rattle.std.specs.List.{flat_map};
-ghost use Rattle.c_tree.specs.Spell.{stmt_kind_spelling, stmt_spelling, block_item_spelling, block_spelling};
-ghost use Rattle.c_tree.specs.Walk.{listed, stmt_kind_weight, stmt_weight, block_item_weight, block_weight};
+ghost use Rattle.c_tree.specs.Spell.{stmt_kind_spelling, stmt_spelling, block_item_spelling};
+ghost use Rattle.c_tree.specs.Spell.{block_spelling};
+ghost use Rattle.c_tree.specs.Walk.{listed, stmt_kind_weight, stmt_weight, block_item_weight};
+ghost use Rattle.c_tree.specs.Walk.{block_weight};
 
 use crate::marks::mark_at;
 use crate::pending::{Part, Pending};

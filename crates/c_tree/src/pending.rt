@@ -69,7 +69,7 @@ impl<'t> Model for Pending<'t> {
 impl<'t> Pending<'t> {
     /// No parts.
     #[tactic(auto, using(crate::proofs::Stack::stack_laws))]
-    pub fn new(alloc: Global) -> Pending<'t>
+    pub(crate) fn new(alloc: Global) -> Pending<'t>
         ensures { result.0 ≡ [] }
     {
         Pending {
@@ -79,7 +79,7 @@ impl<'t> Pending<'t> {
 
     /// Puts a part before those that are left.
     #[tactic(auto, using(crate::proofs::Stack::stack_laws))]
-    pub fn push(&mut self, part: Part<'t>) -> Result<(), AllocError>
+    pub(crate) fn push(&mut self, part: Part<'t>) -> Result<(), AllocError>
         ensures spells { OnOk result (self.new.0 ≡ part_spelling part.entry ++ self.old.0) }
         ensures weighs { OnOk result (self.new.1 ≡ part_weight part.entry + self.old.1) }
     {
@@ -88,7 +88,7 @@ impl<'t> Pending<'t> {
     }
 
     /// Puts the mark of this number before the parts that are left, where its token is there.
-    pub fn push_mark(&mut self, token: Option<u32>, number: u8) -> Result<(), AllocError>
+    pub(crate) fn push_mark(&mut self, token: Option<u32>, number: u8) -> Result<(), AllocError>
         ensures spells { OnOk result (self.new.0 ≡ mark_of token number ++ self.old.0) }
         ensures weighs { OnOk result (self.new.1 ≤ 1 + self.old.1) }
     {
@@ -99,7 +99,7 @@ impl<'t> Pending<'t> {
     }
 
     /// Puts a token before the parts that are left.
-    pub fn push_wanted(&mut self, token: u32, want: Want) -> Result<(), AllocError>
+    pub(crate) fn push_wanted(&mut self, token: u32, want: Want) -> Result<(), AllocError>
         ensures spells { OnOk result (self.new.0 ≡ wanted token want ++ self.old.0) }
         ensures weighs { OnOk result (self.new.1 ≡ 1 + self.old.1) }
     {
@@ -108,7 +108,7 @@ impl<'t> Pending<'t> {
 
     /// Takes the first of the parts that are left.
     #[tactic(auto, using(crate::proofs::Stack::stack_laws))]
-    pub fn pop(&mut self) -> Option<Part<'t>>
+    pub(crate) fn pop(&mut self) -> Option<Part<'t>>
         ensures spells { MatchOption result (self.old.0 ≡ [])
             (λ part. self.old.0 ≡ part_spelling part ++ self.new.0) }
         ensures weighs { MatchOption result (self.new.1 ≡ self.old.1)

@@ -26,7 +26,7 @@ pub enum Want {
     Among(Slot),
 }
 
-/// A place of the grammar where one of several spellings may stand.
+/// A point of the grammar where one of several spellings may stand.
 #[derive(Clone, Copy, Debug, PartialEq, Eq)]
 pub enum Slot {
     /// A storage-class specifier (6.7.1).

@@ -11,11 +11,11 @@ use std::process::Abort;
 use std::test::Fail;
 
 /// The symbols are these, one for each token from 0 on.
-fn assert_wants(rt: &impl Abort, symbols: &[Symbol], wants: &[Want]) {
-    assert_eq!(rt; symbols.len(), wants.len());
+fn assert_wants(rt: &impl Abort, symbols: &[Symbol], wants: &[Want], source: &str) {
+    assert_eq!(rt; symbols.len(), wants.len(), "{source}");
     for (i, (symbol, want)) in symbols.iter().zip(wants).enumerate() {
-        assert_eq!(rt; symbol.token as usize, i);
-        assert_eq!(rt; symbol.want, *want, "at token {i}");
+        assert_eq!(rt; symbol.token as usize, i, "{source}");
+        assert_eq!(rt; symbol.want, *want, "at token {i} of {source}");
     }
 }
 
@@ -45,19 +45,8 @@ fn unit_of(alloc: Global, item: BlockItem, brace: u32) -> Result<Unit, AllocErro
     })
 }
 
-const HEAD: [Want; 6] = [
-    Want::Among(Slot::Basic),
-    Want::Word,
-    Want::Mark(MARK_LEFT_PAREN),
-    Want::Among(Slot::Basic),
-    Want::Mark(MARK_RIGHT_PAREN),
-    Want::Mark(MARK_LEFT_BRACE),
-];
-
-// int f(void){x=1;}
-#[test]
-fn a_function_is_spelled_from_its_type_to_its_brace(rt: HostRuntime) -> Result<(), Fail> {
-    let alloc = rt.alloc();
+/// The tree of `int f(void){x=1;}`.
+fn one_assignment(alloc: Global) -> Result<Unit, AllocError> {
     let assign = Assign {
         targets: list_of_one(alloc, (Prefixed::name(6), 7))?,
         value: Cond {
@@ -67,24 +56,11 @@ fn a_function_is_spelled_from_its_type_to_its_brace(rt: HostRuntime) -> Result<(
             },
         },
     };
-    let unit = unit_of(alloc, statement(alloc, assign, 9)?, 10)?;
-    let symbols = spell(alloc, &unit)?;
-    let mut wants = HEAD.to_vec(alloc)?;
-    wants.push(Want::Word)?;
-    wants.push(Want::Among(Slot::AssignOp))?;
-    wants.push(Want::Among(Slot::Literal))?;
-    wants.push(Want::Mark(MARK_SEMICOLON))?;
-    wants.push(Want::Mark(MARK_RIGHT_BRACE))?;
-    assert_wants(&rt, &symbols, &wants);
-    Ok(())
+    unit_of(alloc, statement(alloc, assign, 9)?, 10)
 }
 
-// int f(void){a=b="c" "d"+e;}
-#[test]
-fn each_operator_stands_after_its_target_or_before_its_operand(
-    rt: HostRuntime,
-) -> Result<(), Fail> {
-    let alloc = rt.alloc();
+/// The tree of `int f(void){a=b="c" "d"+e;}`.
+fn two_targets(alloc: Global) -> Result<Unit, AllocError> {
     let mut targets = List::new(alloc);
     targets.push((Prefixed::name(6), 7))?;
     targets.push((Prefixed::name(8), 9))?;
@@ -102,27 +78,11 @@ fn each_operator_stands_after_its_target_or_before_its_operand(
             },
         },
     };
-    let unit = unit_of(alloc, statement(alloc, assign, 14)?, 15)?;
-    let symbols = spell(alloc, &unit)?;
-    let mut wants = HEAD.to_vec(alloc)?;
-    wants.push(Want::Word)?;
-    wants.push(Want::Among(Slot::AssignOp))?;
-    wants.push(Want::Word)?;
-    wants.push(Want::Among(Slot::AssignOp))?;
-    wants.push(Want::Text)?;
-    wants.push(Want::Text)?;
-    wants.push(Want::Among(Slot::BinaryOp))?;
-    wants.push(Want::Word)?;
-    wants.push(Want::Mark(MARK_SEMICOLON))?;
-    wants.push(Want::Mark(MARK_RIGHT_BRACE))?;
-    assert_wants(&rt, &symbols, &wants);
-    Ok(())
+    unit_of(alloc, statement(alloc, assign, 14)?, 15)
 }
 
-// int f(int a, int b){}
-#[test]
-fn a_comma_stands_between_two_parameters(rt: HostRuntime) -> Result<(), Fail> {
-    let alloc = rt.alloc();
+/// The tree of `int f(int a, int b){}`.
+fn two_parameters(alloc: Global) -> Result<Unit, AllocError> {
     let mut list = List::new(alloc);
     for (specs, name) in [(3, 4), (6, 7)] {
         list.push(Param {
@@ -146,33 +106,79 @@ fn a_comma_stands_between_two_parameters(rt: HostRuntime) -> Result<(), Fail> {
             marks: two_marks(alloc, 9, 10)?,
         },
     };
-    let unit = Unit {
+    Ok(Unit {
         items: list_of_one(alloc, define)?,
-    };
-    let symbols = spell(alloc, &unit)?;
-    let wants = [
-        Want::Among(Slot::Basic),
-        Want::Word,
-        Want::Mark(MARK_LEFT_PAREN),
-        Want::Among(Slot::Basic),
-        Want::Word,
-        Want::Mark(MARK_COMMA),
-        Want::Among(Slot::Basic),
-        Want::Word,
-        Want::Mark(MARK_RIGHT_PAREN),
-        Want::Mark(MARK_LEFT_BRACE),
-        Want::Mark(MARK_RIGHT_BRACE),
-    ];
-    assert_wants(&rt, &symbols, &wants);
-    Ok(())
+    })
 }
 
-#[test]
-fn an_empty_unit_spells_nothing(rt: HostRuntime) -> Result<(), Fail> {
-    let alloc = rt.alloc();
-    let unit = Unit {
+/// The tree of an empty file.
+fn nothing(alloc: Global) -> Unit {
+    Unit {
         items: List::new(alloc),
-    };
-    assert_eq!(rt; spell(alloc, &unit)?.len(), 0);
+    }
+}
+
+const ONE_ASSIGNMENT: [Want; 11] = [
+    Want::Among(Slot::Basic),
+    Want::Word,
+    Want::Mark(MARK_LEFT_PAREN),
+    Want::Among(Slot::Basic),
+    Want::Mark(MARK_RIGHT_PAREN),
+    Want::Mark(MARK_LEFT_BRACE),
+    Want::Word,
+    Want::Among(Slot::AssignOp),
+    Want::Among(Slot::Literal),
+    Want::Mark(MARK_SEMICOLON),
+    Want::Mark(MARK_RIGHT_BRACE),
+];
+
+const TWO_TARGETS: [Want; 16] = [
+    Want::Among(Slot::Basic),
+    Want::Word,
+    Want::Mark(MARK_LEFT_PAREN),
+    Want::Among(Slot::Basic),
+    Want::Mark(MARK_RIGHT_PAREN),
+    Want::Mark(MARK_LEFT_BRACE),
+    Want::Word,
+    Want::Among(Slot::AssignOp),
+    Want::Word,
+    Want::Among(Slot::AssignOp),
+    Want::Text,
+    Want::Text,
+    Want::Among(Slot::BinaryOp),
+    Want::Word,
+    Want::Mark(MARK_SEMICOLON),
+    Want::Mark(MARK_RIGHT_BRACE),
+];
+
+const TWO_PARAMETERS: [Want; 11] = [
+    Want::Among(Slot::Basic),
+    Want::Word,
+    Want::Mark(MARK_LEFT_PAREN),
+    Want::Among(Slot::Basic),
+    Want::Word,
+    Want::Mark(MARK_COMMA),
+    Want::Among(Slot::Basic),
+    Want::Word,
+    Want::Mark(MARK_RIGHT_PAREN),
+    Want::Mark(MARK_LEFT_BRACE),
+    Want::Mark(MARK_RIGHT_BRACE),
+];
+
+#[test]
+fn a_tree_spells_its_tokens_in_their_order(rt: HostRuntime) -> Result<(), Fail> {
+    let alloc = rt.alloc();
+    let assigned = spell(alloc, &one_assignment(alloc)?)?;
+    assert_wants(&rt, &assigned, &ONE_ASSIGNMENT, "int f(void){x=1;}");
+    let targets = spell(alloc, &two_targets(alloc)?)?;
+    assert_wants(
+        &rt,
+        &targets,
+        &TWO_TARGETS,
+        "int f(void){a=b=\"c\" \"d\"+e;}",
+    );
+    let parameters = spell(alloc, &two_parameters(alloc)?)?;
+    assert_wants(&rt, &parameters, &TWO_PARAMETERS, "int f(int a, int b){}");
+    assert_eq!(rt; spell(alloc, &nothing(alloc))?.len(), 0);
     Ok(())
 }

@@ -117,8 +117,8 @@ pub struct Cond {
     pub last: Binary,
 }
 
-/// Operands joined by binary operators (6.5.5 to 6.5.14). They are grouped by precedence, and to the
-/// left.
+/// Operands joined by binary operators (6.5.5 to 6.5.14). They are grouped by precedence, and to
+/// the left.
 #[derive(Drop)]
 pub struct Binary {
     pub first: Prefixed,
