@@ -7,7 +7,8 @@ use Rattle.joern_top.specs.declared.refusal.Refusal.{Refusal}
 use Rattle.joern_top.specs.declared.answer.Answer.{Answer}
 use Rattle.joern_top.specs.declared.answer.Answer.TheVariants as answer
 use Rattle.joern_top.specs.Messages.{refused_line}
-use Rattle.joern_top.specs.Run.{Outcome, outcome, usage_outcome, read_fault_outcome, large_file_outcome, graph_outcome}
+use Rattle.joern_top.specs.Run.{Outcome, outcome, usage_outcome, read_fault_outcome}
+use Rattle.joern_top.specs.Run.{large_file_outcome, graph_outcome}
 use Rattle.joern_top.specs.Reading.{read_graph}
 
 -- What a refusal of the first source, of this name, gives.

@@ -1,7 +1,8 @@
--- The headline: unless a device failed or memory was wanting, a run writes exactly what the rules give
--- for its words and the held files alone. The rules' status is said where the files tell what they
--- hold, and bytes where the sink tells what it took.
-use Rattle.std.specs.Prelude.{ℕ, ◌≡◌, ◌≤◌, ◌⊎◌, List, String, map, string_bytes, take, length, Some, IfSome, IsSome, All, Contains, slice_get}
+-- The headline: unless a device failed or memory was wanting, a run writes exactly what the rules
+-- give for its words and the held files alone. The rules' status is said where the files tell what
+-- they hold, and bytes where the sink tells what it took.
+use Rattle.std.specs.Prelude.{ℕ, ◌≡◌, ◌≤◌, ◌⊎◌, List, String, map, string_bytes, take, length, Some}
+use Rattle.std.specs.Prelude.{IfSome, IsSome, All, Contains, slice_get}
 use Rattle.joern_io.specs.Faults.{Rose}
 use Rattle.joern_io.specs.Held.{Held, file_of}
 use Rattle.joern_io.specs.Files.{FilesState, RoseOrLacks}
@@ -17,8 +18,8 @@ use Rattle.joern_top.specs.Run.{Outcome, IsOutcome}
 
 -- ---- A run
 
--- A run by its ends: its words, what contracts see of the files and of the sink before and after it,
--- and how it ended.
+-- A run by its ends: its words, what contracts see of the files and of the sink before and after
+-- it, and how it ended.
 pub record Run : Type 0 where
   pub words : List (List ℕ)
   pub files_before : FilesState
@@ -93,8 +94,8 @@ AnswersWhatItCan run = IfSome run.files_before.held (λ held. CanAnswer run.word
 
 -- ---- Faults
 
--- The number is that of a file in the order of reading, which a device failed to read or which is not
--- held. Those before it are held and within the limit.
+-- The number is that of a file in the order of reading, which a device failed to read or which is
+-- not held. Those before it are held and within the limit.
 pub record StopsReadingAt (run : Run) (number : ℕ) : Type 0 where
   pub name : List ℕ
   pub named : slice_get (names run) number ≡ Some name

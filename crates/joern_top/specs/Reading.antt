@@ -17,8 +17,8 @@ use Rattle.joern_top.specs.Refusals.{IsRefusedAt}
 
 -- ---- A source that was read
 
--- The file of the source of this name with these bytes, of whose tokens this is held: its kept tokens,
--- and their places.
+-- The file of the source of this name with these bytes, of whose tokens this is held: its kept
+-- tokens, and their places.
 abbrev pub held_file : List ℕ → List ℕ → SourceTokens → File
 held_file name bytes held =
     let kept = held.kept.items in

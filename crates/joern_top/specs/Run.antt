@@ -1,5 +1,5 @@
--- The run (ours): what the words and the held files give, as a status and the bytes that are written.
--- The cases come in the order of refusals, and the first that holds decides.
+-- The run (ours): what the words and the held files give, as a status and the bytes that are
+-- written. The cases come in the order of refusals, and the first that holds decides.
 use Rattle.std.specs.Prelude.{ℕ, ◌≡◌, ◌<◌, ◌≤◌, ◌⊎◌, List, Option, Some, None, length}
 use Rattle.joern_io.specs.Held.{Held, file_of}
 use Rattle.c_lexer.specs.declared.source_text.TheConstants.{MAX_FILE_BYTES}
@@ -47,8 +47,8 @@ refused_outcome name bytes at why =
 abbrev pub graph_outcome : PlainGraph → Outcome
 graph_outcome graph = outcome status.Ok (graph_lines graph)
 
--- The outcome for a source of this name with these bytes: it is refused, or it is read, and the lines
--- are those of its graph.
+-- The outcome for a source of this name with these bytes: it is refused, or it is read, and the
+-- lines are those of its graph.
 pub data IsSourceOutcome (name bytes : List ℕ) : Outcome → Type 0 where
   refused : (at : ℕ) (why : Reason) → IsRefusedAt bytes at why →
       IsSourceOutcome name bytes (refused_outcome name bytes at why)

@@ -1,5 +1,5 @@
--- How a source is read: its tokens, those that the parser keeps, the presumed places of all, and the
--- tree of the kept ones.
+-- How a source is read: its tokens, those that the parser keeps, the presumed places of all, and
+-- the tree of the kept ones.
 use Rattle.std.specs.Prelude.{ℕ, ◌≡◌, List, Option}
 use Rattle.std.specs.List.{AllZip}
 use Rattle.c_lexer.specs.declared.token.Token.{Token}
@@ -25,8 +25,8 @@ pub record ArePresumed (name bytes : List ℕ) (tokens : List Token)
   pub said : AllZip (Says bytes) tokens says
   pub are : places ≡ presumed_places (first_presumption name) tokens says
 
--- What a source is read as: its tokens, the positions of those that are kept, the places of all, and
--- the tree of the kept ones.
+-- What a source is read as: its tokens, the positions of those that are kept, the places of all,
+-- and the tree of the kept ones.
 pub record Parts : Type 0 where
   pub tokens : List Token
   pub kept : List ℕ
