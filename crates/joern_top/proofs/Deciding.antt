@@ -25,12 +25,6 @@ Blames run a = IfReadFault a (λ name.
 abbrev pub IsWritten : Run → Answer → Type 0
 IsWritten run a = Writes (outcome_of a) run.out_before run.out_after run.status
 
--- What a run did: it decided on the answer, and wrote it.
-pub record Does (run : Run) (a : Answer) : Type 0 where
-  pub decided : Decides run a
-  pub blames : Blames run a
-  pub written : IsWritten run a
-
 -- Where a value is told, what follows of it does.
 pub if_told : {A : Type 0} (o : Option A) (P Q : A → Type 0) → ((x : A) → o ≡ Some x → P x → Q x) →
     IfSome o P → IfSome o Q

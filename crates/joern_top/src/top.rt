@@ -33,8 +33,8 @@ pub fn joern_one<F: Files, S: Sink>(
     ensures answer { AnswersByTheRules
         (run_of F.state S.state words.now files.old files.new out.old out.new result) }
 
-    // What can be answered is answered Ok, with exactly the rules' bytes, unless a device fails or
-    // memory is wanting. Then nothing is written.
+    // Where no device fails, what can be answered is answered Ok with exactly the rules' bytes, or
+    // memory is wanting and nothing is written.
     ensures accepts { AnswersWhatItCan
         (run_of F.state S.state words.now files.old files.new out.old out.new result) }
 
