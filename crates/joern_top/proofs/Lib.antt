@@ -3,10 +3,9 @@ pub mod Answering
 pub mod ReadFaults
 pub mod WriteFaults
 pub mod Completing
+pub mod Fate
 pub mod OneOutcome
-pub mod Lines
-pub mod Standing
-pub mod Keeping
+pub mod SomeOutcome
 pub mod Presuming
 pub mod Refusing
 pub mod FewNodes

@@ -1,51 +1,37 @@
 -- The words and the held files have one outcome.
 use Rattle.std.proofs.Common.{◌≡◌, ℕ, ◌≤◌, inl, inr, List, [], ◌∷◌, length, Option, Some, None, refl, sym, ◌∙◌, ap, subst, arith}
-use Rattle.std.specs.Prelude.{IsSome, All, Contains, slice_get}
+use Rattle.std.specs.Prelude.{IsSome, All, Contains}
 use Rattle.std.specs.List.{AllZip}
-use Rattle.std.proofs.lemmas.Option.{same_Some}
 use Rattle.joern_io.specs.Held.{Held, file_of}
+use Rattle.c_lexer.specs.declared.source_text.TheConstants.{MAX_FILE_BYTES}
 use Rattle.c_lexer.specs.declared.token.Token.{Token}
 use Rattle.c_lexer.specs.Directives.{IsMarkerOf}
-use Rattle.c_lexer.specs.Reading.{AreTokensOf, StopsAt, LeavesOpen}
-use Rattle.line_marks.specs.Kept.{AreKept, StopsStripping}
 use Rattle.line_marks.specs.Presumed.{Presumed, Said, Says, first_presumption, presumed_places}
 use Rattle.c_tree.specs.declared.tree.Unit.{Unit}
 use Rattle.first_grammar.specs.FirstUnit.{IsFirstUnit}
-use Rattle.ast_layer.specs.SyntaxLayer.{syntax_layer}
+use Rattle.line_marks.specs.Kept.{items_at}
 use Rattle.joern_top.specs.declared.status.Status.TheVariants as status
-use Rattle.joern_top.specs.declared.status.Reason.{Reason}
-use Rattle.joern_top.specs.declared.status.Reason.TheVariants as reason
 use Rattle.joern_top.specs.Words.{Command, Dump, command, files_of}
-use Rattle.joern_top.specs.Source.{max_file_bytes, StandAt, IsStrippedTo, ArePresumedAt, IsReadAs, IsAccepted}
+use Rattle.joern_top.specs.Source.{Parts, ArePresumed, IsReadAs, IsAccepted, graph_of}
 use Rattle.joern_top.specs.Run.{Outcome, IsOutcome, IsCommandOutcome, IsFileOutcome, IsSourceOutcome, refused_outcome, graph_outcome}
-use Rattle.joern_top.specs.Run.IsSourceOutcome.{byte, unclosed, attribute, unbuilt, read}
+use Rattle.joern_top.specs.Run.IsSourceOutcome.{refused, read}
 use Rattle.joern_top.specs.Headline.{IsReadable, CanAnswer}
-use Rattle.joern_top.proofs.Standing.{one_standing}
+use Rattle.joern_top.proofs.Fate.{Unique, one_stripping, one_refusal, never_refused}
 
--- Which parts of an outcome are one: a text's tokens or its stop, and the tokens that are kept or the bad `__attribute__`,
--- and never both.
-pub record Unique : Type 0 where
-  pub tokens : (bytes : List ℕ) (first second : List Token) → AreTokensOf bytes first → AreTokensOf bytes second → first ≡ second
-  pub stop : (bytes : List ℕ) (first second : ℕ) → StopsAt bytes first → StopsAt bytes second → first ≡ second
-  pub tokens_or_stop : (bytes : List ℕ) (tokens : List Token) (at : ℕ) → AreTokensOf bytes tokens → StopsAt bytes at → ⊥
-  pub kept : (tokens : List Token) (first second : List ℕ) → AreKept tokens first → AreKept tokens second → first ≡ second
-  pub bad : (tokens : List Token) (first second : ℕ) → StopsStripping tokens first → StopsStripping tokens second → first ≡ second
-  pub kept_or_bad : (tokens : List Token) (kept : List ℕ) (bad : ℕ) → AreKept tokens kept → StopsStripping tokens bad → ⊥
-
--- what a marker says is one
+-- What a marker says is one.
 abbrev pub OneMarker : Type 0
 OneMarker = (bytes : List ℕ) (from p q l m : ℕ) (f g : Option (List ℕ)) →
     IsMarkerOf bytes from p l f → IsMarkerOf bytes from q m g → (p ≡ q) × (l ≡ m) × (f ≡ g)
 
--- the tree of tokens is one
+-- The tree of tokens is one.
 abbrev pub OneUnit : Type 0
 OneUnit = (bytes : List ℕ) (tokens : List Token) (first second : Unit) → IsFirstUnit bytes tokens first → IsFirstUnit bytes tokens second → first ≡ second
 
--- what a marker says, of its parts
+-- What a marker says, of its parts.
 abbrev said_of : ℕ → Option (List ℕ) → Said
 said_of line file = record { line = line; file = file }
 
--- a token says one thing
+-- A token says one thing.
 said_once : OneMarker → (bytes : List ℕ) (token : Token) (x y : Option Said) → Says bytes token x → Says bytes token y → x ≡ y
 said_once one_marker bytes token None None first second = refl
 said_once one_marker bytes token None (Some y) first second = absurd (first second.0)
@@ -56,7 +42,7 @@ said_once one_marker bytes token (Some x) (Some y) first second =
     let file : x.file ≡ y.file = same.2 in
     ap (λ line. Some (said_of line x.file)) line ∙ ap (λ file. Some (said_of y.line file)) file
 
--- tokens say one list of things
+-- Tokens say one list of things.
 says_once : OneMarker → (bytes : List ℕ) (tokens : List Token) (xs ys : List (Option Said)) →
     AllZip (Says bytes) tokens xs → AllZip (Says bytes) tokens ys → xs ≡ ys
 says_once one_marker bytes [] [] [] first second = refl
@@ -67,136 +53,43 @@ says_once one_marker bytes (token ∷ tokens) (x ∷ xs) [] first second = absur
 says_once one_marker bytes (token ∷ tokens) (x ∷ xs) (y ∷ ys) (is, first) (also, second) =
     ap (λ z. z ∷ xs) (said_once one_marker bytes token x y is also) ∙ ap (λ zs. y ∷ zs) (says_once one_marker bytes tokens xs ys first second)
 
--- the tokens that are kept are one list, as are the positions at which they stand
-record SameKept (tokens other : List Token) (positions places : List ℕ) (kept also : List Token) : Type 0 where
-  tokens_same : tokens ≡ other
-  positions_same : positions ≡ places
-  kept_same : kept ≡ also
+-- The places are one list.
+one_places : OneMarker → (name bytes : List ℕ) (tokens : List Token) (xs ys : List Presumed) →
+    ArePresumed name bytes tokens xs → ArePresumed name bytes tokens ys → xs ≡ ys
+one_places one_marker name bytes tokens xs ys first second =
+    let same = says_once one_marker bytes tokens first.says second.says first.said second.said in
+    first.are ∙ ap (λ says. presumed_places (first_presumption name) tokens says) same ∙ sym second.are
 
-one_kept : Unique → (bytes : List ℕ) (tokens other : List Token) (positions places : List ℕ) (kept also : List Token) →
-    IsStrippedTo bytes tokens positions kept → IsStrippedTo bytes other places also → SameKept tokens other positions places kept also
-one_kept unique bytes tokens other positions places kept also first second =
-    let same : tokens ≡ other = unique.tokens bytes tokens other first.lexed second.lexed in
-    let stripped : AreKept other positions = let P : List Token → Type 0 = λ t. AreKept t positions in subst P same first.stripped in
-    let at : positions ≡ places = unique.kept other positions places stripped second.stripped in
-    let stand : StandAt other positions kept = let P : List Token → Type 0 = λ t. StandAt t positions kept in subst P same first.are in
-    let stand_there : StandAt other places kept = let P : List ℕ → Type 0 = λ p. StandAt other p kept in subst P at stand in
-    record { tokens_same = same; positions_same = at; kept_same = one_standing other places kept also stand_there second.are }
+-- The parts, of theirs.
+abbrev parts_of : List Token → List ℕ → List Presumed → Unit → Parts
+parts_of tokens kept places unit = record { tokens = tokens; kept = kept; places = places; unit = unit }
 
--- the places are one list
-one_places : OneMarker → (name bytes : List ℕ) (tokens : List Token) (positions : List ℕ) (xs ys : List Presumed) →
-    ArePresumedAt name bytes tokens positions xs → ArePresumedAt name bytes tokens positions ys → xs ≡ ys
-one_places one_marker name bytes tokens positions xs ys first second =
-    let same : first.says ≡ second.says = says_once one_marker bytes tokens first.says second.says first.said second.said in
-    let P : List (Option Said) → Type 0 = λ says. StandAt (presumed_places (first_presumption name) tokens says) positions xs in
-    one_standing (presumed_places (first_presumption name) tokens second.says) positions xs ys (subst P same first.are) second.are
+-- A source is read in one way.
+one_reading : Unique → OneMarker → OneUnit → (name bytes : List ℕ) (x y : Parts) → IsReadAs name bytes x → IsReadAs name bytes y → x ≡ y
+one_reading unique one_marker one_unit name bytes x y first second =
+    let same = one_stripping unique bytes x.tokens y.tokens x.kept y.kept first.stripped second.stripped in
+    let tokens : x.tokens ≡ y.tokens = same.0 in
+    let kept : x.kept ≡ y.kept = same.1 in
+    let P : List Token → Type 0 = λ t. ArePresumed name bytes t x.places in
+    let places : x.places ≡ y.places = one_places one_marker name bytes y.tokens x.places y.places (subst P tokens first.presumed) second.presumed in
+    let Q : List Token → Type 0 = λ t. IsFirstUnit bytes t x.unit in
+    let kept_tokens : items_at x.tokens x.kept ≡ items_at y.tokens y.kept =
+    ap (λ t. items_at t x.kept) tokens ∙ ap (λ k. items_at y.tokens k) kept in
+    let unit : x.unit ≡ y.unit = one_unit bytes (items_at y.tokens y.kept) x.unit y.unit (subst Q kept_tokens first.parsed) second.parsed in
+    ap (λ t. parts_of t x.kept x.places x.unit) tokens ∙ ap (λ k. parts_of y.tokens k x.places x.unit) kept
+    ∙ ap (λ p. parts_of y.tokens y.kept p x.unit) places ∙ ap (λ u. parts_of y.tokens y.kept y.places u) unit
 
--- a source is read in one way
-one_graph : Unique → OneMarker → OneUnit → (name bytes : List ℕ) (kept also : List Token) (places others : List Presumed) (x y : Unit) →
-    IsReadAs name bytes kept places x → IsReadAs name bytes also others y →
-    graph_outcome (syntax_layer name bytes kept places x) ≡ graph_outcome (syntax_layer name bytes also others y)
-one_graph unique one_marker one_unit name bytes kept also places others x y first second =
-    let same = one_kept unique bytes first.tokens second.tokens first.positions second.positions kept also first.stripped second.stripped in
-    let presumed : ArePresumedAt name bytes second.tokens first.positions places =
-    let P : List Token → Type 0 = λ t. ArePresumedAt name bytes t first.positions places in subst P same.tokens_same first.presumed in
-    let presumed_there : ArePresumedAt name bytes second.tokens second.positions places =
-    let P : List ℕ → Type 0 = λ p. ArePresumedAt name bytes second.tokens p places in subst P same.positions_same presumed in
-    let at : places ≡ others = one_places one_marker name bytes second.tokens second.positions places others presumed_there second.presumed in
-    let parsed : IsFirstUnit bytes also x = let P : List Token → Type 0 = λ t. IsFirstUnit bytes t x in subst P same.kept_same first.parsed in
-    let unit : x ≡ y = one_unit bytes also x y parsed second.parsed in
-    ap (λ kept. graph_outcome (syntax_layer name bytes kept places x)) same.kept_same
-    ∙ ap (λ places. graph_outcome (syntax_layer name bytes also places x)) at
-    ∙ ap (λ unit. graph_outcome (syntax_layer name bytes also others unit)) unit
-
--- a stop that leaves something open is no other stop
-one_stop_outcome : Unique → (name bytes : List ℕ) (at also : ℕ) (why : Reason) → StopsAt bytes at → StopsAt bytes also →
-    refused_outcome name bytes at why ≡ refused_outcome name bytes also why
-one_stop_outcome unique name bytes at also why first second =
-    ap (λ at. refused_outcome name bytes at why) (unique.stop bytes at also first second)
-
-open_is_open : Unique → (bytes : List ℕ) (at also : ℕ) → StopsAt bytes at → StopsAt bytes also → LeavesOpen bytes at → LeavesOpen bytes also
-open_is_open unique bytes at also first second left =
-    let P : ℕ → Type 0 = λ at. LeavesOpen bytes at in subst P (unique.stop bytes at also first second) left
-
--- the bad `__attribute__` is one
-one_attribute : Unique → (bytes : List ℕ) (tokens others : List Token) (number place : ℕ) (token other : Token) →
-    AreTokensOf bytes tokens → AreTokensOf bytes others → StopsStripping tokens number → StopsStripping others place →
-    slice_get tokens number ≡ Some token → slice_get others place ≡ Some other → token ≡ other
-one_attribute unique bytes tokens others number place token other lexed also stops again is here =
-    let same : tokens ≡ others = unique.tokens bytes tokens others lexed also in
-    let stops_there : StopsStripping others number = let P : List Token → Type 0 = λ t. StopsStripping t number in subst P same stops in
-    let at : number ≡ place = unique.bad others number place stops_there again in
-    same_Some token other (sym is ∙ ap (λ t. slice_get t number) same ∙ ap (λ n. slice_get others n) at ∙ here)
-
--- tokens are kept, or one of them is bad
-never_both : Unique → (bytes : List ℕ) (tokens others : List Token) (positions : List ℕ) (number : ℕ) (kept : List Token) →
-    IsStrippedTo bytes tokens positions kept → AreTokensOf bytes others → StopsStripping others number → ⊥
-never_both unique bytes tokens others positions number kept stripped lexed stops =
-    let same : others ≡ tokens = unique.tokens bytes others tokens lexed stripped.lexed in
-    let stops_there : StopsStripping tokens number = let P : List Token → Type 0 = λ t. StopsStripping t number in subst P same stops in
-    unique.kept_or_bad tokens positions number stripped.stripped stops_there
-
--- kept tokens have a tree, or they have none
-never_unbuilt : Unique → (bytes : List ℕ) (tokens others : List Token) (positions places : List ℕ) (kept also : List Token) (unit : Unit) →
-    IsStrippedTo bytes tokens positions kept → IsFirstUnit bytes kept unit →
-    IsStrippedTo bytes others places also → ((unit : Unit) → IsFirstUnit bytes also unit → ⊥) → ⊥
-never_unbuilt unique bytes tokens others positions places kept also unit stripped parsed again none =
-    let same = one_kept unique bytes tokens others positions places kept also stripped again in
-    let P : List Token → Type 0 = λ t. IsFirstUnit bytes t unit in
-    none unit (subst P same.kept_same parsed)
-
--- a source has one outcome
+-- A source has one outcome.
 one_source_outcome : Unique → OneMarker → OneUnit → (name bytes : List ℕ) (o p : Outcome) → IsSourceOutcome name bytes o → IsSourceOutcome name bytes p → o ≡ p
-one_source_outcome unique marker tree name bytes o p (byte at stop closed) (byte also again close) =
-    one_stop_outcome unique name bytes at also reason.Byte stop again
-one_source_outcome unique marker tree name bytes o p (byte at stop closed) (unclosed also again left) =
-    absurd (closed (open_is_open unique bytes also at again stop left))
-one_source_outcome unique marker tree name bytes o p (byte at stop closed) (attribute tokens number token lexed bad is) =
-    absurd (unique.tokens_or_stop bytes tokens at lexed stop)
-one_source_outcome unique marker tree name bytes o p (byte at stop closed) (unbuilt tokens positions kept stripped none) =
-    absurd (unique.tokens_or_stop bytes tokens at stripped.lexed stop)
-one_source_outcome unique marker tree name bytes o p (byte at stop closed) (read kept places unit is) =
-    absurd (unique.tokens_or_stop bytes is.tokens at is.stripped.lexed stop)
-one_source_outcome unique marker tree name bytes o p (unclosed at stop left) (byte also again closed) =
-    absurd (closed (open_is_open unique bytes at also stop again left))
-one_source_outcome unique marker tree name bytes o p (unclosed at stop left) (unclosed also again close) =
-    one_stop_outcome unique name bytes at also reason.Unclosed stop again
-one_source_outcome unique marker tree name bytes o p (unclosed at stop left) (attribute tokens number token lexed bad is) =
-    absurd (unique.tokens_or_stop bytes tokens at lexed stop)
-one_source_outcome unique marker tree name bytes o p (unclosed at stop left) (unbuilt tokens positions kept stripped none) =
-    absurd (unique.tokens_or_stop bytes tokens at stripped.lexed stop)
-one_source_outcome unique marker tree name bytes o p (unclosed at stop left) (read kept places unit is) =
-    absurd (unique.tokens_or_stop bytes is.tokens at is.stripped.lexed stop)
-one_source_outcome unique marker tree name bytes o p (attribute tokens number token lexed bad is) (byte at stop closed) =
-    absurd (unique.tokens_or_stop bytes tokens at lexed stop)
-one_source_outcome unique marker tree name bytes o p (attribute tokens number token lexed bad is) (unclosed at stop left) =
-    absurd (unique.tokens_or_stop bytes tokens at lexed stop)
-one_source_outcome unique marker tree name bytes o p (attribute tokens number token lexed bad is) (attribute others place other also again here) =
-    let same : token ≡ other = one_attribute unique bytes tokens others number place token other lexed also bad again is here in
-    ap (λ (token : Token). refused_outcome name bytes token.start reason.Attribute) same
-one_source_outcome unique marker tree name bytes o p (attribute others number token lexed bad is) (unbuilt tokens positions kept stripped none) =
-    absurd (never_both unique bytes tokens others positions number kept stripped lexed bad)
-one_source_outcome unique marker tree name bytes o p (attribute others number token lexed bad here) (read kept places unit is) =
-    absurd (never_both unique bytes is.tokens others is.positions number kept is.stripped lexed bad)
-one_source_outcome unique marker tree name bytes o p (unbuilt tokens positions kept stripped none) (byte at stop closed) =
-    absurd (unique.tokens_or_stop bytes tokens at stripped.lexed stop)
-one_source_outcome unique marker tree name bytes o p (unbuilt tokens positions kept stripped none) (unclosed at stop left) =
-    absurd (unique.tokens_or_stop bytes tokens at stripped.lexed stop)
-one_source_outcome unique marker tree name bytes o p (unbuilt tokens positions kept stripped none) (attribute others number token lexed bad is) =
-    absurd (never_both unique bytes tokens others positions number kept stripped lexed bad)
-one_source_outcome unique marker tree name bytes o p (unbuilt tokens positions kept stripped none) (unbuilt others places also again never) = refl
-one_source_outcome unique marker tree name bytes o p (unbuilt tokens positions also stripped none) (read kept places unit is) =
-    absurd (never_unbuilt unique bytes is.tokens tokens is.positions positions kept also unit is.stripped is.parsed stripped none)
-one_source_outcome unique marker tree name bytes o p (read kept places unit is) (byte at stop closed) =
-    absurd (unique.tokens_or_stop bytes is.tokens at is.stripped.lexed stop)
-one_source_outcome unique marker tree name bytes o p (read kept places unit is) (unclosed at stop left) =
-    absurd (unique.tokens_or_stop bytes is.tokens at is.stripped.lexed stop)
-one_source_outcome unique marker tree name bytes o p (read kept places unit is) (attribute others number token lexed bad here) =
-    absurd (never_both unique bytes is.tokens others is.positions number kept is.stripped lexed bad)
-one_source_outcome unique marker tree name bytes o p (read kept places unit is) (unbuilt tokens positions also stripped none) =
-    absurd (never_unbuilt unique bytes is.tokens tokens is.positions positions kept also unit is.stripped is.parsed stripped none)
-one_source_outcome unique marker tree name bytes o p (read kept places unit is) (read also others other again) =
-    one_graph unique marker tree name bytes kept also places others unit other is again
+one_source_outcome unique marker tree name bytes o p (refused at why is) (refused also because again) =
+    let same = one_refusal unique bytes at also why because is again in
+    ap (λ at. refused_outcome name bytes at why) same.0 ∙ ap (λ why. refused_outcome name bytes also why) same.1
+one_source_outcome unique marker tree name bytes o p (refused at why is) (read parts how) =
+    absurd (never_refused unique bytes parts.tokens parts.kept parts.unit how.stripped how.parsed at why is)
+one_source_outcome unique marker tree name bytes o p (read parts how) (refused at why is) =
+    absurd (never_refused unique bytes parts.tokens parts.kept parts.unit how.stripped how.parsed at why is)
+one_source_outcome unique marker tree name bytes o p (read parts how) (read others again) =
+    ap (λ parts. graph_outcome (graph_of name bytes parts)) (one_reading unique marker tree name bytes parts others how again)
 
 one_file_outcome : Unique → OneMarker → OneUnit → (name : List ℕ) (file : Option (List ℕ)) (o p : Outcome) → IsFileOutcome name file o → IsFileOutcome name file p → o ≡ p
 one_file_outcome unique marker tree name None o p first second = first ∙ sym second
@@ -212,18 +105,14 @@ one_command_outcome unique marker tree (Some (Dump name)) held o p first second 
 pub one_outcome : Unique → OneMarker → OneUnit → (words : List (List ℕ)) (held : Held) (o p : Outcome) → IsOutcome words held o → IsOutcome words held p → o ≡ p
 one_outcome unique marker tree words held o p first second = one_command_outcome unique marker tree (command words) held o p first second
 
--- the outcome for an accepted source
+-- The outcome for an accepted source.
 accepted_source_is_ok : Unique → (name bytes : List ℕ) (o : Outcome) → IsAccepted bytes → IsSourceOutcome name bytes o → o.status ≡ status.Ok
-accepted_source_is_ok unique name bytes o can (byte at stop closed) = absurd (unique.tokens_or_stop bytes can.tokens at can.stripped.lexed stop)
-accepted_source_is_ok unique name bytes o can (unclosed at stop left) = absurd (unique.tokens_or_stop bytes can.tokens at can.stripped.lexed stop)
-accepted_source_is_ok unique name bytes o can (attribute tokens number token lexed bad is) =
-    absurd (never_both unique bytes can.tokens tokens can.positions number can.kept can.stripped lexed bad)
-accepted_source_is_ok unique name bytes o can (unbuilt tokens positions kept stripped none) =
-    absurd (never_unbuilt unique bytes can.tokens tokens can.positions positions can.kept kept can.unit can.stripped can.parsed stripped none)
-accepted_source_is_ok unique name bytes o can (read kept places unit is) = refl
+accepted_source_is_ok unique name bytes o can (refused at why is) =
+    absurd (never_refused unique bytes can.tokens can.kept can.unit can.stripped can.parsed at why is)
+accepted_source_is_ok unique name bytes o can (read parts is) = refl
 
--- the same, of a file within the limit
-accepted_is_ok : Unique → (name bytes : List ℕ) (o : Outcome) → length bytes ≤ max_file_bytes → IsAccepted bytes → IsFileOutcome name (Some bytes) o → o.status ≡ status.Ok
+-- The same, of a file within the limit.
+accepted_is_ok : Unique → (name bytes : List ℕ) (o : Outcome) → length bytes ≤ MAX_FILE_BYTES → IsAccepted bytes → IsFileOutcome name (Some bytes) o → o.status ≡ status.Ok
 accepted_is_ok unique name bytes o small accepted (inl (large, is)) = absurd (omega arith)
 accepted_is_ok unique name bytes o small accepted (inr (again, is)) = accepted_source_is_ok unique name bytes o accepted is
 

@@ -1,33 +1,31 @@
--- A refusal is the rules' refusal.
-use Rattle.std.proofs.Common.{◌≡◌, ℕ, List, Err, IsErrOf, subst}
+-- What was read or refused is answered by the rules.
+use Rattle.std.proofs.Common.{◌≡◌, ℕ, ◌≤◌, List, length, Some, inr, sym, subst}
+use Rattle.c_lexer.specs.declared.source_text.TheConstants.{MAX_FILE_BYTES}
 use Rattle.c_lexer.specs.Lines.{line_at, column_at}
-use Rattle.joern_top.specs.declared.status.Reason.{Reason}
+use Rattle.joern_top.specs.declared.status.Status.TheVariants as status
+use Rattle.joern_top.specs.declared.read.ReadSource.{ReadSource}
 use Rattle.joern_top.specs.declared.refusal.Refusal.{Refusal}
-use Rattle.joern_top.specs.declared.source.SourceStop.{SourceStop}
-use Rattle.joern_top.specs.declared.source.SourceStop.TheVariants.{Refused}
-use Rattle.joern_top.specs.Run.{Outcome, IsSourceOutcome, refused_outcome}
-use Rattle.joern_top.specs.Reading.{refusal_outcome, IsRefusedAs}
+use Rattle.joern_top.specs.Run.{Outcome, IsSourceOutcome, IsFileOutcome, outcome, graph_outcome, refused_outcome}
+use Rattle.joern_top.specs.Run.IsSourceOutcome.{refused, read}
+use Rattle.joern_top.specs.Reading.{IsReadSource, IsRefusal, read_graph}
+use Rattle.joern_top.specs.Answers.{refusal_outcome}
 
--- the refusal blames this byte, with its line and column
-pub record Blames (bytes : List ℕ) (at : ℕ) (why : Reason) (refusal : Refusal) : Type 0 where
-  pub reason : refusal.reason ≡ why
-  pub at_byte : refusal.at ≡ at
-  pub line : refusal.line ≡ line_at bytes at
-  pub column : refusal.column ≡ column_at bytes at
+pub decided_read : (name bytes : List ℕ) (source : ReadSource) → length bytes ≤ MAX_FILE_BYTES → IsReadSource name bytes source →
+    IsFileOutcome name (Some bytes) (graph_outcome (read_graph source))
+decided_read name bytes source small is =
+    let P : List ℕ → Type 0 = λ lines. IsSourceOutcome name bytes (outcome status.Ok lines) in
+    inr (small, subst P (sym is.lines) (read is.parts is.is))
 
-same_outcome : (bytes : List ℕ) (at : ℕ) (why : Reason) (refusal : Refusal) → Blames bytes at why refusal →
-    (name : List ℕ) → refused_outcome name bytes at why ≡ refusal_outcome name refusal
-same_outcome bytes at why refusal blames name =
-    let reason = blames.reason in
-    let place = blames.at_byte in
-    let line = blames.line in
-    let column = blames.column in
+-- Its line and its column are those of the byte.
+same_outcome : (name bytes : List ℕ) (refusal : Refusal) → IsRefusal bytes refusal →
+    refused_outcome name bytes refusal.at refusal.reason ≡ refusal_outcome name refusal
+same_outcome name bytes refusal is =
+    let line = is.line in
+    let column = is.column in
     cc
 
--- where the rules refuse a source at that byte for that reason, the refusal is theirs
-pub refused_by_rules : {T : Type 0} (bytes : List ℕ) (at : ℕ) (why : Reason) (mine refusal : Refusal) → Blames bytes at why mine → IsErrOf {T = T} {E = SourceStop} (Err (Refused mine)) (Refused refusal) →
-    ((name : List ℕ) → IsSourceOutcome name bytes (refused_outcome name bytes at why)) → IsRefusedAs bytes refusal
-refused_by_rules bytes at why mine refusal blames is refused =
-    let same : mine ≡ refusal = cc in
-    let P : Refusal → Type 0 = λ refusal. IsRefusedAs bytes refusal in
-    subst P same (λ name. let Q : Outcome → Type 0 = λ o. IsSourceOutcome name bytes o in subst Q (same_outcome bytes at why mine blames name) (refused name))
+pub decided_refusal : (name bytes : List ℕ) (refusal : Refusal) → length bytes ≤ MAX_FILE_BYTES → IsRefusal bytes refusal →
+    IsFileOutcome name (Some bytes) (refusal_outcome name refusal)
+decided_refusal name bytes refusal small is =
+    let P : Outcome → Type 0 = λ o. IsSourceOutcome name bytes o in
+    inr (small, subst P (same_outcome name bytes refusal is) (refused refusal.at refusal.reason is.refused))

@@ -1,15 +1,23 @@
 -- What the program has decided to answer, before it is written.
-use Rattle.std.specs.Prelude.{ℕ, ◌≡◌, ◌⊎◌, List, [], Option}
-use Rattle.joern_io.specs.Faults.{Rose}
-use Rattle.joern_io.specs.Writing.{Appends, AppendsProperPrefix}
-use Rattle.joern_top.specs.Reading.{refusal_outcome, read_graph}
+use Rattle.std.specs.Prelude.{ℕ, ◌≡◌, ◌⊎◌, List, []}
+use Rattle.joern_io.specs.Sinks.{SinkState, Takes, TakesPrefix}
 use Rattle.joern_top.specs.declared.status.Status.{Status}
 use Rattle.joern_top.specs.declared.status.Status.TheVariants as status
+use Rattle.joern_top.specs.declared.refusal.Refusal.{Refusal}
 use Rattle.joern_top.specs.declared.answer.Answer.{Answer}
 use Rattle.joern_top.specs.declared.answer.Answer.TheVariants as answer
-use Rattle.joern_top.specs.Run.{Outcome, outcome, usage_outcome, read_fault_outcome, large_file_outcome, graph_outcome}
+use Rattle.joern_top.specs.Messages.{refused_line}
+use Rattle.joern_top.specs.Run.{Outcome, outcome, usage_outcome, read_fault_outcome}
+use Rattle.joern_top.specs.Run.{large_file_outcome, graph_outcome}
+use Rattle.joern_top.specs.Reading.{read_graph}
 
--- the status and the bytes of an answer
+-- What a refusal of the first source, of this name, gives.
+abbrev pub refusal_outcome : List ℕ → Refusal → Outcome
+refusal_outcome name refusal =
+    outcome (status.SourceRefused 0 refusal.at refusal.reason)
+    (refused_line name refusal.line refusal.column refusal.reason)
+
+-- The status and the bytes of an answer.
 abbrev pub outcome_of : Answer → Outcome
 outcome_of answer.Usage = usage_outcome
 outcome_of (answer.ReadFault name) = read_fault_outcome name.now
@@ -18,19 +26,19 @@ outcome_of (answer.Refused name refusal) = refusal_outcome name.now refusal
 outcome_of (answer.Dump read) = graph_outcome (read_graph read)
 outcome_of answer.NoMemory = outcome status.NoMemory []
 
--- the answer is neither that a file could not be read nor that memory is wanting
+-- The answer is neither that a file could not be read nor that memory is wanting.
 abbrev pub IsDecided : Answer → Type 0
 IsDecided (answer.ReadFault _) = ⊥
 IsDecided answer.NoMemory = ⊥
 IsDecided _ = Unit {0}
 
--- P of the name of the file that could not be read, if the answer says so
+-- P of the name of the file that could not be read, if the answer says so.
 abbrev pub IfReadFault : Answer → (List ℕ → Type 0) → Type 0
 IfReadFault (answer.ReadFault name) P = P name.now
 IfReadFault _ P = Unit {0}
 
--- the answer was written whole, or the sink failed once it had taken a proper prefix
-abbrev pub Writes : Outcome → Option (List ℕ) → Option (List ℕ) → ℕ → ℕ → Status → Type 0
-Writes wanted took_before took faults_before faults end =
-    ((end ≡ wanted.status) × Appends took_before took wanted.bytes)
-    ⊎ ((end ≡ status.WriteFault) × Rose faults_before faults × AppendsProperPrefix took_before took wanted.bytes)
+-- The outcome was written whole, or the sink failed once it had taken a proper prefix.
+abbrev pub Writes : Outcome → SinkState → SinkState → Status → Type 0
+Writes wanted old new end =
+    ((end ≡ wanted.status) × Takes old new wanted.bytes)
+    ⊎ ((end ≡ status.WriteFault) × TakesPrefix old new wanted.bytes)

@@ -3,8 +3,8 @@ pub mod Words
 pub mod Commands
 pub mod Source
 pub mod Refusals
+pub mod Messages
 pub mod Run
-pub mod LayerGraph
 pub mod Reading
 pub mod Answers
 pub mod Headline

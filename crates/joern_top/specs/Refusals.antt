@@ -1,35 +1,26 @@
--- The one line that a refusal prints (ours).
-use Rattle.std.specs.Prelude.{ℕ, List, ◌++◌, codes, decimal}
-use Rattle.cpg_schema.specs.Values.{escaped}
+-- Why a source is refused, and at which byte of its text (ours).
+use Rattle.std.specs.Prelude.{ℕ, ◌≡◌, List, Some, slice_get}
+use Rattle.c_lexer.specs.declared.token.Token.{Token}
+use Rattle.c_lexer.specs.Reading.{AreTokensOf, StopsAt, LeavesOpen}
+use Rattle.line_marks.specs.Kept.{StopsStripping, items_at}
+use Rattle.c_tree.specs.declared.tree.Unit.{Unit}
+use Rattle.first_grammar.specs.FirstUnit.{IsFirstUnit}
 use Rattle.joern_top.specs.declared.status.Reason.{Reason}
 use Rattle.joern_top.specs.declared.status.Reason.TheVariants as reason
-use Rattle.joern_top.specs.declared.status.What.{What}
-use Rattle.joern_top.specs.declared.status.What.TheVariants as what
+use Rattle.joern_top.specs.Source.{IsStrippedTo}
 
--- how a reason is spelled
-abbrev pub reason_text : Reason → List ℕ
-reason_text reason.Byte = codes "byte"
-reason_text reason.Unclosed = codes "unclosed"
-reason_text reason.Attribute = codes "attribute"
-reason_text reason.Unbuilt = codes "unbuilt"
-
--- how what there is too much of is spelled
-abbrev pub what_text : What → List ℕ
-what_text what.FileBytes = codes "file-bytes"
-
--- `usage`
-abbrev pub usage_line : List ℕ
-usage_line = codes "usage\n"
-
--- `read fault NAME`
-abbrev pub read_fault_line : List ℕ → List ℕ
-read_fault_line name = codes "read fault " ++ escaped name ++ codes "\n"
-
--- `refused NAME:LINE:COLUMN REASON`
-abbrev pub refused_line : List ℕ → ℕ → ℕ → Reason → List ℕ
-refused_line name line column why =
-    codes "refused " ++ escaped name ++ codes ":" ++ decimal line ++ codes ":" ++ decimal column ++ codes " " ++ reason_text why ++ codes "\n"
-
--- `limit WHAT AT`
-abbrev pub limit_line : What → ℕ → List ℕ
-limit_line quantity at = codes "limit " ++ what_text quantity ++ codes " " ++ decimal at ++ codes "\n"
+-- A source with these bytes is refused at the byte with this offset, for this reason.
+pub data IsRefusedAt (bytes : List ℕ) : ℕ → Reason → Type 0 where
+  -- Its reading stops there, and nothing is left open.
+  byte : (at : ℕ) → StopsAt bytes at → ¬ LeavesOpen bytes at → IsRefusedAt bytes at reason.Byte
+  -- Its reading stops there, at a comment or a literal without an end.
+  unclosed : (at : ℕ) → StopsAt bytes at → LeavesOpen bytes at →
+      IsRefusedAt bytes at reason.Unclosed
+  -- It has tokens, and parentheses are missing after the one that begins there, an `__attribute__`.
+  attribute : (tokens : List Token) (number : ℕ) (token : Token) → AreTokensOf bytes tokens →
+      StopsStripping tokens number → slice_get tokens number ≡ Some token →
+      IsRefusedAt bytes token.start reason.Attribute
+  -- The tokens that are kept for the parser have no tree. No byte is blamed.
+  unbuilt : (tokens : List Token) (kept : List ℕ) → IsStrippedTo bytes tokens kept →
+      ((unit : Unit) → ¬ IsFirstUnit bytes (items_at tokens kept) unit) →
+      IsRefusedAt bytes 0 reason.Unbuilt

@@ -1,47 +1,56 @@
--- How a source is read: its tokens, those that the parser keeps, their presumed places, and the tree of a file of the part
--- of C that is built.
-use Rattle.std.specs.Prelude.{ℕ, ◌≡◌, List, Option, Some, slice_get}
+-- How a source is read: its tokens, those that the parser keeps, the presumed places of all, and
+-- the tree of the kept ones.
+use Rattle.std.specs.Prelude.{ℕ, ◌≡◌, List, Option}
 use Rattle.std.specs.List.{AllZip}
 use Rattle.c_lexer.specs.declared.token.Token.{Token}
 use Rattle.c_lexer.specs.Reading.{AreTokensOf}
-use Rattle.line_marks.specs.Kept.{AreKept}
+use Rattle.line_marks.specs.Kept.{AreKept, items_at}
 use Rattle.line_marks.specs.Presumed.{Presumed, Said, Says, first_presumption, presumed_places}
 use Rattle.c_tree.specs.declared.tree.Unit.{Unit}
 use Rattle.first_grammar.specs.FirstUnit.{IsFirstUnit}
-
--- the largest source, in bytes
-abbrev pub max_file_bytes : ℕ
-max_file_bytes = 16777216
-
--- at the positions of the list stand these items, in this order
-abbrev pub StandAt : {A : Type 0} → List A → List ℕ → List A → Type 0
-StandAt all positions items = AllZip (λ position item. slice_get all position ≡ Some item) positions items
+use Rattle.cpg_schema.specs.Graph.{PlainGraph}
+use Rattle.ast_layer.specs.Source.{file}
+use Rattle.ast_layer.specs.SyntaxLayer.{syntax_layer}
 
 -- The text has these tokens (C11 6.4), and those at the positions are kept for the parser.
-pub record IsStrippedTo (bytes : List ℕ) (tokens : List Token) (positions : List ℕ) (kept : List Token) : Type 0 where
+pub record IsStrippedTo (bytes : List ℕ) (tokens : List Token) (kept : List ℕ) : Type 0 where
   pub lexed : AreTokensOf bytes tokens
-  pub stripped : AreKept tokens positions
-  pub are : StandAt tokens positions kept
+  pub stripped : AreKept tokens kept
 
--- The places of the tokens at the positions, as the line markers before them say (C11 6.10.4). The source has this name.
-pub record ArePresumedAt (name bytes : List ℕ) (tokens : List Token) (positions : List ℕ) (places : List Presumed) : Type 0 where
+-- These are the places of the tokens, as the line markers before each of them say (C11 6.10.4). The
+-- source has this name.
+pub record ArePresumed (name bytes : List ℕ) (tokens : List Token)
+    (places : List Presumed) : Type 0 where
   pub says : List (Option Said)
   pub said : AllZip (Says bytes) tokens says
-  pub are : StandAt (presumed_places (first_presumption name) tokens says) positions places
+  pub are : places ≡ presumed_places (first_presumption name) tokens says
 
--- The source of this name with these bytes is read as a tree, of these kept tokens with these places.
-pub record IsReadAs (name bytes : List ℕ) (kept : List Token) (places : List Presumed) (unit : Unit) : Type 0 where
+-- What a source is read as: its tokens, the positions of those that are kept, the places of all,
+-- and the tree of the kept ones.
+pub record Parts : Type 0 where
   pub tokens : List Token
-  pub positions : List ℕ
-  pub stripped : IsStrippedTo bytes tokens positions kept
-  pub presumed : ArePresumedAt name bytes tokens positions places
-  pub parsed : IsFirstUnit bytes kept unit
+  pub kept : List ℕ
+  pub places : List Presumed
+  pub unit : Unit
+
+-- The source of this name with these bytes is read as these parts.
+pub record IsReadAs (name bytes : List ℕ) (parts : Parts) : Type 0 where
+  pub stripped : IsStrippedTo bytes parts.tokens parts.kept
+  pub presumed : ArePresumed name bytes parts.tokens parts.places
+  pub parsed : IsFirstUnit bytes (items_at parts.tokens parts.kept) parts.unit
+
+-- The graph of the syntax layer of such a source: that of its tree, over its kept tokens and their
+-- places.
+abbrev pub graph_of : List ℕ → List ℕ → Parts → PlainGraph
+graph_of name bytes parts =
+    let tokens = items_at parts.tokens parts.kept in
+    let places = items_at parts.places parts.kept in
+    syntax_layer (file name bytes tokens places) parts.unit
 
 -- The text is that of a file with a tree.
 pub record IsAccepted (bytes : List ℕ) : Type 0 where
   pub tokens : List Token
-  pub positions : List ℕ
-  pub kept : List Token
+  pub kept : List ℕ
   pub unit : Unit
-  pub stripped : IsStrippedTo bytes tokens positions kept
-  pub parsed : IsFirstUnit bytes kept unit
+  pub stripped : IsStrippedTo bytes tokens kept
+  pub parsed : IsFirstUnit bytes (items_at tokens kept) unit

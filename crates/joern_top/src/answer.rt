@@ -1,14 +1,18 @@
-ghost use Rattle.std.specs.Prelude.{◌≡◌, ◌≤◌, ◌⊎◌, vec_len, Some, IfSome, map, string_bytes, IsNone};
-ghost use Rattle.joern_io.specs.Faults.{Rose};
-ghost use Rattle.joern_io.specs.Held.{file_of, Lacks};
+//! What is answered to the words, as it is decided before anything is written.
+
+ghost use Rattle.std.specs.Prelude.{◌≡◌, ◌≤◌, Some, IfSome, IsNone, map, string_bytes};
+ghost use Rattle.std.specs.Prelude.{vec_len};
+ghost use Rattle.joern_io.specs.Held.{file_of};
+ghost use Rattle.joern_io.specs.Files.{KeepsFiles, RoseOrLacks};
 ghost use Rattle.joern_top.specs.Answers.{outcome_of, IsDecided, IfReadFault};
 ghost use Rattle.joern_top.specs.Run.{IsOutcome, IsFileOutcome};
 ghost use Rattle.joern_top.specs.Words.{Dump, command};
 
 use crate::read::ReadSource;
 use crate::refusal::Refusal;
-use crate::source::{MAX_FILE_BYTES, SourceStop, read_source};
+use crate::source::{SourceStop, read_source};
 use crate::words::{Command, read_words};
+use c_lexer::MAX_FILE_BYTES;
 use joern_io::{Files, ReadStop, read_all};
 use std::alloc::Global;
 
@@ -28,16 +32,15 @@ pub(crate) enum Answer<'a> {
 
 /// The answer to the words, in the order of refusals.
 pub(crate) fn decide<'a, F: Files>(alloc: Global, words: &'a [String], files: &mut F) -> Answer<'a>
-    ensures held { F.held files.new ≡ F.held files.old }
-    ensures never_falls { F.faults files.old ≤ F.faults files.new }
+    ensures keeps { KeepsFiles (F.state files.old) (F.state files.new) }
     ensures no_command { IsNone (command (map string_bytes words.now)) →
         (result ≡ Answer.Usage) × (files.new ≡ files.old) }
     ensures usage { result ≡ Answer.Usage → IsNone (command (map string_bytes words.now)) }
-    ensures decided { IfSome (F.held files.old) (λ held. IsDecided result →
+    ensures decided { IfSome (F.state files.old).held (λ held. IsDecided result →
         IsOutcome (map string_bytes words.now) held (outcome_of result)) }
     ensures read_fault { IfReadFault result (λ name.
         (command (map string_bytes words.now) ≡ Some (Dump name))
-        × (Rose (F.faults files.old) (F.faults files.new) ⊎ Lacks (F.held files.old) name)) }
+        × RoseOrLacks (F.state files.old) (F.state files.new) name) }
 {
     match read_words(words) {
         None => Answer::Usage,
@@ -47,15 +50,14 @@ pub(crate) fn decide<'a, F: Files>(alloc: Global, words: &'a [String], files: &m
 
 /// The answer to a dump of the file of this name.
 fn dump_answer<'a, F: Files>(alloc: Global, name: &'a str, files: &mut F) -> Answer<'a>
-    ensures held { F.held files.new ≡ F.held files.old }
-    ensures never_falls { F.faults files.old ≤ F.faults files.new }
-    ensures no_usage { result ≡ Answer.Usage → ⊥ }
-    ensures decided { IfSome (F.held files.old) (λ held. IsDecided result →
+    ensures keeps { KeepsFiles (F.state files.old) (F.state files.new) }
+    ensures no_usage { ¬ (result ≡ Answer.Usage) }
+    ensures decided { IfSome (F.state files.old).held (λ held. IsDecided result →
         IsFileOutcome name.now (file_of held name.now) (outcome_of result)) }
-    ensures read_fault { IfReadFault result (λ file. (file ≡ name.now)
-        × (Rose (F.faults files.old) (F.faults files.new) ⊎ Lacks (F.held files.old) name.now)) }
+    ensures read_fault { IfReadFault result (λ file.
+        (file ≡ name.now) × RoseOrLacks (F.state files.old) (F.state files.new) file) }
 {
-    match read_all(alloc, files, name, MAX_FILE_BYTES) {
+    match read_all(alloc, files, name, MAX_FILE_BYTES as u32) {
         Ok(bytes) => source_answer(alloc, name, bytes),
         Err(ReadStop::Failed) => Answer::ReadFault { name },
         Err(ReadStop::TooLarge) => Answer::TooLarge,
@@ -65,10 +67,10 @@ fn dump_answer<'a, F: Files>(alloc: Global, name: &'a str, files: &mut F) -> Ans
 
 /// The answer to a dump of a file with these bytes.
 fn source_answer<'a>(alloc: Global, name: &'a str, bytes: Vec<u8>) -> Answer<'a>
-    requires { vec_len bytes ≤ MAX_FILE_BYTES }
+    requires within { vec_len bytes ≤ MAX_FILE_BYTES }
     ensures decided { IsDecided result →
         IsFileOutcome name.now (Some bytes.items) (outcome_of result) }
-    ensures no_usage { result ≡ Answer.Usage → ⊥ }
+    ensures no_usage { ¬ (result ≡ Answer.Usage) }
     ensures no_read_fault { IfReadFault result (λ _. ⊥) }
 {
     match read_source(alloc, name, bytes) {

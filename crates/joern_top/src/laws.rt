@@ -12,7 +12,7 @@ use line_marks::laws::law_one_stripping;
 
 /// The words and the held files have at most one outcome.
 pub fn law_one_outcome()
-    ensures { (words : List (List ℕ)) (held : Held) (o p : Outcome) →
+    ensures one { (words : List (List ℕ)) (held : Held) (o p : Outcome) →
         IsOutcome words held o → IsOutcome words held p → o ≡ p }
 {
     law_one_reading();
@@ -21,10 +21,22 @@ pub fn law_one_outcome()
     law_one_unit();
 }
 
+/// The words and the held files have an outcome: it cannot be that nothing is one.
+///
+/// That is existence in classical terms. Where a comment is left open, and whether tokens have a
+/// tree, no definition decides, so that no outcome is named.
+pub fn law_some_outcome()
+    ensures some { (words : List (List ℕ)) (held : Held) →
+        ¬ ((o : Outcome) → ¬ IsOutcome words held o) }
+{
+    law_one_reading();
+    law_one_stripping();
+}
+
 /// The outcome is Ok where the words give a command, each of its files is held and within the
 /// limit, and each source is accepted.
 pub fn law_can_answer()
-    ensures { (words : List (List ℕ)) (held : Held) (o : Outcome) →
+    ensures ok { (words : List (List ℕ)) (held : Held) (o : Outcome) →
         CanAnswer words held → IsOutcome words held o → o.status ≡ status.Ok }
 {
     law_one_reading();

@@ -3,7 +3,6 @@
 #![tactic(auto)]
 
 mod answer;
-mod kept;
 pub mod laws;
 mod read;
 mod refusal;
@@ -15,6 +14,5 @@ mod top;
 mod words;
 mod write;
 
-pub use source::MAX_FILE_BYTES;
 pub use status::{Reason, Status, What};
 pub use top::joern_one;

@@ -1,29 +1,29 @@
-//! A source, and the stages that it goes through: tokens, tree, syntax layer.
+//! A source, and the stages that it goes through.
 
-ghost use Rattle.std.specs.Prelude.{◌≡◌, ◌≤◌, length, vec_len, IfOk, IsErrOf};
+ghost use Rattle.std.specs.Prelude.{◌≡◌, ◌≤◌, length, vec_len, IfOk, IfErr};
+ghost use Rattle.c_lexer.specs.Reading.{AreTokensOf};
+ghost use Rattle.line_marks.specs.Kept.{AreKept, items_at};
 ghost use Rattle.first_grammar.specs.FirstUnit.{IsFirstUnit};
 ghost use Rattle.cpg_schema.specs.Lines.{graph_lines};
 ghost use Rattle.cpg_schema.specs.Order.{in_order};
 ghost use Rattle.ast_layer.specs.Layer.{layer_edges};
 ghost use Rattle.ast_layer.specs.SyntaxLayer.{syntax_layer as graph_of};
-ghost use Rattle.joern_top.specs.declared.refusal.Refusal.{Refusal as refusal_of};
-ghost use Rattle.joern_top.specs.LayerGraph.{layer_graph};
-ghost use Rattle.joern_top.specs.Reading.{AreKeptOf, IsReadSource, IsRefusedAs, kept_file, kept_places};
+ghost use Rattle.joern_top.specs.Source.{IsStrippedTo};
+ghost use Rattle.joern_top.specs.Reading.{IsReadSource, IsStopOf, held_file, layer_graph};
+ghost use Rattle.joern_top.specs.Refusals.{IsRefusedAt};
 
-use crate::kept::{KeptTokens, read_kept};
-use crate::read::ReadSource;
+use crate::read::{ReadSource, SourceTokens};
 use crate::refusal::Refusal;
 use crate::status::Reason;
 use ast_layer::laws::law_few_nodes;
 use ast_layer::{SyntaxLayer, syntax_layer};
-use c_lexer::Token;
 use c_lexer::laws::law_within_the_text;
+use c_lexer::{LexStop, MAX_FILE_BYTES, SourceText, Token, lex};
 use c_tree::Unit;
 use first_grammar::{GrammarStop, read_unit};
+use line_marks::laws::law_kept_positions;
+use line_marks::{Places, StripStop, places_of, strip};
 use std::alloc::{AllocError, Global};
-
-/// The largest source, in bytes.
-pub const MAX_FILE_BYTES: u32 = 16_777_216;
 
 /// Why a source is not read.
 #[derive(Clone, Copy, Debug)]
@@ -45,64 +45,113 @@ impl From<AllocError> for SourceStop {
     }
 }
 
-/// Reads a source, and makes its syntax layer.
+/// Reads a source, and makes its syntax layer. The first stage that refuses it decides.
 pub(crate) fn read_source<'a>(
     alloc: Global,
     name: &'a str,
     bytes: Vec<u8>,
 ) -> Result<ReadSource<'a>, SourceStop>
-    requires { vec_len bytes ≤ MAX_FILE_BYTES }
-    ensures ok { IfOk result (λ read. IsReadSource name.now bytes.items read) }
-    ensures refused { (refusal : refusal_of) → IsErrOf result (SourceStop.Refused refusal) →
-        IsRefusedAs bytes.items refusal }
+    requires within { vec_len bytes ≤ MAX_FILE_BYTES }
+    ensures ok { IfOk result (IsReadSource name.now bytes.items) }
+    ensures refused { IfErr result (IsStopOf bytes.items) }
 {
-    let kept = read_kept(alloc, name, &bytes)?;
-    let unit = read_tree(alloc, &bytes, &kept.tokens)?;
-    let layer = layer_of(alloc, name, &bytes, &kept, &unit)?;
+    let text = SourceText { bytes: &bytes };
+    let tokens = read_tokens(alloc, text)?;
+    let kept = keep_tokens(alloc, text, &tokens)?;
+    let Places { places, files } = places_of(alloc, text, &tokens, name)?;
+    let unit = read_tree(alloc, text, &tokens, &kept)?;
+    law_kept_positions();
+    let tokens = SourceTokens { tokens, kept, places, files };
+    let layer = make_layer(alloc, name, text, &tokens, &unit)?;
     Ok(ReadSource {
         name,
         bytes,
-        kept,
+        tokens,
         layer,
     })
 }
 
-/// The tree of the kept tokens of a text.
-fn read_tree(alloc: Global, bytes: &[u8], tokens: &[Token]) -> Result<Unit, SourceStop>
-    requires small { length bytes.now ≤ MAX_FILE_BYTES }
-    requires kept { AreKeptOf bytes.now tokens.now }
-    ensures ok { IfOk result (λ unit. IsFirstUnit bytes.now tokens.now unit) }
-    ensures refused { (refusal : refusal_of) → IsErrOf result (SourceStop.Refused refusal) →
-        IsRefusedAs bytes.now refusal }
+/// The tokens of a text.
+fn read_tokens(alloc: Global, text: SourceText<'_>) -> Result<Vec<Token>, SourceStop>
+    ensures ok { IfOk result (λ tokens. AreTokensOf text.entry.bytes.now tokens.items) }
+    ensures refused { IfErr result (IsStopOf text.entry.bytes.now) }
+{
+    match lex(alloc, text) {
+        Ok(tokens) => Ok(tokens),
+        Err(LexStop::BadByte { at }) => Err(refuse(text, at, Reason::Byte)),
+        Err(LexStop::Unclosed { at }) => Err(refuse(text, at, Reason::Unclosed)),
+        Err(LexStop::Memory) => Err(SourceStop::Memory),
+    }
+}
+
+/// The positions of the tokens of a text that the parser keeps.
+fn keep_tokens(
+    alloc: Global,
+    text: SourceText<'_>,
+    tokens: &[Token],
+) -> Result<Vec<u32>, SourceStop>
+    requires tokens { AreTokensOf text.bytes.now tokens.now }
+    ensures ok { IfOk result (λ kept. AreKept tokens.now kept.items) }
+    ensures refused { IfErr result (IsStopOf text.entry.bytes.now) }
 {
     law_within_the_text();
-    match read_unit(alloc, bytes, tokens) {
-        Ok(unit) => Ok(unit),
-        Err(GrammarStop::Unbuilt) => {
-            Err(SourceStop::Refused(Refusal::new(Reason::Unbuilt, bytes, 0)))
+    match strip(alloc, tokens) {
+        Ok(kept) => Ok(kept),
+        Err(StripStop::BadAttribute { token }) => {
+            let at = tokens[token as usize].start;
+            Err(refuse(text, at, Reason::Attribute))
         }
+        Err(StripStop::Memory) => Err(SourceStop::Memory),
+    }
+}
+
+/// The tree of the kept tokens of a text.
+fn read_tree(
+    alloc: Global,
+    text: SourceText<'_>,
+    tokens: &[Token],
+    kept: &[u32],
+) -> Result<Unit, SourceStop>
+    requires stripped { IsStrippedTo text.bytes.now tokens.now kept.now }
+    ensures ok { IfOk result (IsFirstUnit text.entry.bytes.now (items_at tokens.now kept.now)) }
+    ensures refused { IfErr result (IsStopOf text.entry.bytes.now) }
+{
+    law_within_the_text();
+    law_kept_positions();
+    match read_unit(alloc, text, tokens, kept) {
+        Ok(unit) => Ok(unit),
+        Err(GrammarStop::Unbuilt) => Err(refuse(text, 0, Reason::Unbuilt)),
         Err(GrammarStop::Memory) => Err(SourceStop::Memory),
     }
 }
 
-/// The syntax layer of a source with this tree.
-fn layer_of(
+/// The syntax layer of a source with these tokens and this tree.
+fn make_layer(
     alloc: Global,
     name: &str,
-    bytes: &[u8],
-    kept: &KeptTokens,
+    text: SourceText<'_>,
+    held: &SourceTokens,
     unit: &Unit,
 ) -> Result<SyntaxLayer, AllocError>
-    requires small { length bytes.now ≤ MAX_FILE_BYTES }
-    requires kept { AreKeptOf bytes.now kept.now.tokens.items }
-    requires unit { IsFirstUnit bytes.now kept.now.tokens.items unit.now }
+    requires stripped { IsStrippedTo text.bytes.now held.now.tokens.items held.now.kept.items }
+    requires unit { IsFirstUnit text.bytes.now
+        (items_at held.now.tokens.items held.now.kept.items) unit.now }
     ensures lines { IfOk result (λ layer.
-        graph_lines (layer_graph (kept_file name.now bytes.now kept.now) layer) ≡
-        graph_lines (graph_of name.now bytes.now kept.now.tokens.items (kept_places kept.now)
-        unit.now)) }
+        let file = held_file name.now text.entry.bytes.now held.now in
+        graph_lines (layer_graph file layer) ≡ graph_lines (graph_of file unit.now)) }
     ensures in_order { IfOk result (λ layer. in_order (layer_edges layer) ≡ layer_edges layer) }
 {
     law_few_nodes();
     law_within_the_text();
-    syntax_layer(alloc, kept.source(name, bytes), unit)
+    law_kept_positions();
+    syntax_layer(alloc, held.source(name, text), unit)
+}
+
+/// The stop at a byte at which the rules refuse the text.
+fn refuse(text: SourceText<'_>, at: u32, reason: Reason) -> SourceStop
+    requires refused { IsRefusedAt text.bytes.now at reason }
+    requires inside { at ≤ length text.bytes.now }
+    ensures { IsStopOf text.entry.bytes.now result }
+{
+    SourceStop::Refused(Refusal::new(text, at, reason))
 }

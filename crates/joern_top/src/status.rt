@@ -1,6 +1,8 @@
+//! How a run ends.
+
 ghost use Rattle.std.specs.Prelude.{◌≡◌};
 ghost use Rattle.joern_top.specs.Status.{status_code};
-ghost use Rattle.joern_top.specs.Refusals.{reason_text};
+ghost use Rattle.joern_top.specs.Messages.{reason_text};
 
 /// How a run ended.
 #[derive(Clone, Copy, Debug, PartialEq, Eq)]
@@ -9,13 +11,13 @@ pub enum Status {
     Ok,
     /// The words give no command.
     Usage,
-    /// A source is refused. `file` counts the sources from 0, and `at` is a byte position in it.
+    /// A source is refused. `file` counts the sources from 0, and `at` is the offset of a byte.
     SourceRefused { file: u32, at: u32, reason: Reason },
     /// A file could not be read. `name` counts the files in the order of reading, from 0.
     ReadFault { name: u32 },
     /// Not all was written.
     WriteFault,
-    /// A limit was passed. `at` is the file's place in the order of reading, from 0.
+    /// A limit was passed. `at` counts the files in the order of reading, from 0.
     Limit { what: What, at: u32 },
     /// Memory is wanting; nothing was written.
     NoMemory,

@@ -1,4 +1,6 @@
-ghost use Rattle.std.specs.Prelude.{◌≡◌, map, string_bytes, MatchOption};
+//! What the words of the command line ask for.
+
+ghost use Rattle.std.specs.Prelude.{◌≡◌, map, string_bytes};
 ghost use Rattle.std.specs.Option.{option_map};
 ghost use Rattle.joern_top.specs.Words.{command, is_file_name};
 ghost use Rattle.joern_top.specs.Commands.{plain_command};

@@ -1,7 +1,9 @@
-ghost use Rattle.std.specs.Prelude.{◌≤◌};
-ghost use Rattle.joern_top.specs.Reading.{refusal_outcome, read_graph};
-ghost use Rattle.joern_top.specs.Answers.{outcome_of, Writes};
-ghost use Rattle.joern_top.specs.Run.{outcome, read_fault_outcome, large_file_outcome, graph_outcome};
+//! Writing what was decided.
+
+ghost use Rattle.joern_top.specs.Reading.{read_graph};
+ghost use Rattle.joern_top.specs.Answers.{outcome_of, refusal_outcome, Writes};
+ghost use Rattle.joern_top.specs.Run.{outcome, read_fault_outcome};
+ghost use Rattle.joern_top.specs.Run.{large_file_outcome, graph_outcome};
 ghost use Rattle.graph_text.specs.LineParts.{line_text};
 
 use crate::answer::Answer;
@@ -13,9 +15,7 @@ use joern_io::{Failed, Sink};
 
 /// Writes an answer, and says how the run ended.
 pub(crate) fn write_answer<S: Sink>(answer: &Answer<'_>, out: &mut S) -> Status
-    ensures never_falls { S.faults out.old ≤ S.faults out.new }
-    ensures written { Writes (outcome_of answer.now)
-        (S.took out.old) (S.took out.new) (S.faults out.old) (S.faults out.new) result }
+    ensures { Writes (outcome_of answer.now) (S.state out.old) (S.state out.new) result }
 {
     match answer {
         Answer::Usage => refuse(Status::Usage, &[LinePart::Verbatim("usage")], out),
@@ -29,9 +29,8 @@ pub(crate) fn write_answer<S: Sink>(answer: &Answer<'_>, out: &mut S) -> Status
 
 /// Prints the syntax layer of a source.
 fn write_dump<S: Sink>(read: &ReadSource<'_>, out: &mut S) -> Status
-    ensures never_falls { S.faults out.old ≤ S.faults out.new }
-    ensures written { Writes (graph_outcome (read_graph read.now))
-        (S.took out.old) (S.took out.new) (S.faults out.old) (S.faults out.new) result }
+    ensures { Writes (graph_outcome (read_graph read.now))
+        (S.state out.old) (S.state out.new) result }
 {
     match print_graph(&read.view(), out) {
         Ok(()) => Status::Ok,
@@ -41,9 +40,7 @@ fn write_dump<S: Sink>(read: &ReadSource<'_>, out: &mut S) -> Status
 
 /// Prints that the file of this name could not be read.
 fn refuse_file<S: Sink>(name: &str, out: &mut S) -> Status
-    ensures never_falls { S.faults out.old ≤ S.faults out.new }
-    ensures written { Writes (read_fault_outcome name.now)
-        (S.took out.old) (S.took out.new) (S.faults out.old) (S.faults out.new) result }
+    ensures { Writes (read_fault_outcome name.now) (S.state out.old) (S.state out.new) result }
 {
     let status = Status::ReadFault { name: 0 };
     refuse(
@@ -58,9 +55,7 @@ fn refuse_file<S: Sink>(name: &str, out: &mut S) -> Status
 
 /// Prints that the file has too many bytes.
 fn refuse_large_file<S: Sink>(out: &mut S) -> Status
-    ensures never_falls { S.faults out.old ≤ S.faults out.new }
-    ensures written { Writes large_file_outcome
-        (S.took out.old) (S.took out.new) (S.faults out.old) (S.faults out.new) result }
+    ensures { Writes large_file_outcome (S.state out.old) (S.state out.new) result }
 {
     let status = Status::Limit {
         what: What::FileBytes,
@@ -75,9 +70,8 @@ fn refuse_large_file<S: Sink>(out: &mut S) -> Status
 
 /// Prints that the source of this name is refused, where and why.
 fn refuse_source<S: Sink>(name: &str, refusal: &Refusal, out: &mut S) -> Status
-    ensures never_falls { S.faults out.old ≤ S.faults out.new }
-    ensures written { Writes (refusal_outcome name.now refusal.now)
-        (S.took out.old) (S.took out.new) (S.faults out.old) (S.faults out.new) result }
+    ensures { Writes (refusal_outcome name.now refusal.now)
+        (S.state out.old) (S.state out.new) result }
 {
     let status = Status::SourceRefused {
         file: 0,
@@ -102,9 +96,8 @@ fn refuse_source<S: Sink>(name: &str, refusal: &Refusal, out: &mut S) -> Status
 
 /// Prints the one line of a refusal.
 fn refuse<S: Sink>(status: Status, line: &[LinePart<'_>], out: &mut S) -> Status
-    ensures never_falls { S.faults out.old ≤ S.faults out.new }
-    ensures written { Writes (outcome status (line_text line.now))
-        (S.took out.old) (S.took out.new) (S.faults out.old) (S.faults out.new) result }
+    ensures { Writes (outcome status (line_text line.now))
+        (S.state out.old) (S.state out.new) result }
 {
     match print_line(line, out) {
         Ok(()) => status,

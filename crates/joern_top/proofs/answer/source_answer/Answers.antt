@@ -1,11 +1,14 @@
-use Rattle.std.proofs.Common.{ℕ, List, inr, sym, subst, arith}
-use Rattle.joern_top.specs.declared.status.Status.TheVariants as status
-use Rattle.joern_top.specs.Run.{IsSourceOutcome, outcome}
-use Rattle.joern_top.specs.Run.IsSourceOutcome.{read}
+use Rattle.std.proofs.Common.{subst, arith}
+use Rattle.joern_top.specs.declared.source.SourceStop.{SourceStop}
+use Rattle.joern_top.specs.Reading.{IsStopOf}
+use Rattle.joern_top.proofs.Refusing.{decided_read, decided_refusal}
 use Rattle.joern_top.proofs.answer.source_answer.Goals as goal
 
 pub returns-in-Ok-clause-decided : goal.returns-in-Ok-clause-decided
 returns-in-Ok-clause-decided c = λ decided.
-    let is = c.in-Ok.ensures.ok in
-    let P : List ℕ → Type 0 = λ lines. IsSourceOutcome c.args.name.now c.args.bytes.items (outcome status.Ok lines) in
-    inr (omega (arith, c.args.bytes.ok.0), subst P (sym is.lines) (read is.kept is.places is.unit is.is))
+    decided_read _ _ _ (omega (arith, c.requires.within, c.args.bytes.ok.0)) c.in-Ok.ensures.ok
+
+pub returns-in-Err-Refused-clause-decided : goal.returns-in-Err-Refused-clause-decided
+returns-in-Err-Refused-clause-decided c = λ decided.
+    let P : SourceStop → Type 0 = λ stop. IsStopOf c.args.bytes.items stop in
+    decided_refusal _ _ _ (omega (arith, c.requires.within, c.args.bytes.ok.0)) (subst P c.in-Err-Refused.field-0-is c.in-Err-Refused.ensures.refused)

@@ -1,0 +1,17 @@
+use Rattle.std.proofs.Common.{◌≡◌, refl}
+use Rattle.joern_top.proofs.Presuming.{read_source_is}
+use Rattle.joern_top.proofs.source.read_source.Goals as goal
+
+pub returns-clause-ok : goal.returns-clause-ok
+returns-clause-ok c =
+    let text : c.deref.result.now ≡ c.args.bytes.items = cc in
+    let tokens : c.deref-2.result.now ≡ c.in_ok-tokens.tokens.items = cc in
+    let tokens_too : c.deref-3.result.now ≡ c.in_ok-tokens.tokens.items = cc in
+    let all_tokens : c.deref-4.result.now ≡ c.in_ok-tokens.tokens.items = cc in
+    let kept : c.deref-5.result.now ≡ c.in_ok-kept.kept.items = cc in
+    read_source_is _ _ _ _ c.in_ok-unit.unit text (record {
+      lexed = rw text at c.in_ok-tokens.ensures.ok;
+      stripped = rw tokens at c.in_ok-kept.ensures.ok;
+      places = rw (text, tokens_too) at c.in_ok-places.ensures.ok;
+      parsed = rw (text, all_tokens, kept) at c.in_ok-unit.ensures.ok;
+    }) c.in_ok-layer.ensures.lines refl refl
