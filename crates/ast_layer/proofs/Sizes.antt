@@ -126,4 +126,4 @@ length-unit_edges unit = omega (
   length-functions_edges 2 unit.items,
 )
 
-pub ruleset size_laws = (grouped_size-pos, length-append, length-grouped_nodes, length-children_nodes, length-function_nodes, length-functions_nodes)
+pub ruleset size_laws = (grouped_size-pos, length-append, length-grouped_nodes, length-children_nodes, length-function_nodes, length-functions_nodes, length-unit_nodes, length-unit_edges)

@@ -25,6 +25,7 @@ pub const MAX_NODES: usize = 2_147_483_648;
 /// The layer keeps numbers of tokens, and a `LayerView` has the texts.
 ///
 /// `laws::law_few_nodes` shows the room from the number of tokens.
+#[tactic(auto, using(crate::proofs::Adding::layer_steps))]
 pub fn syntax_layer(
     alloc: Global,
     source: Source<'_>,

@@ -1,4 +1,4 @@
-use Rattle.std.proofs.Common.{refl, ◌≡◌, ap, ◌∙◌, Result, Ok, Err, arith}
+use Rattle.std.proofs.Common.{refl, ◌≡◌, Result, Ok, Err, arith}
 use Rattle.std.specs.Result.{IfOk}
 use Rattle.std.proofs.lemmas.Result.{IfOk-weaker}
 use Rattle.cpg_schema.specs.Order.{in_order}
@@ -6,19 +6,8 @@ use Rattle.ast_layer.specs.Source.{file_of}
 use Rattle.ast_layer.specs.SyntaxLayer.{unit_nodes, unit_edges}
 use Rattle.ast_layer.specs.Layer.{layer_nodes, layer_edges}
 use Rattle.ast_layer.proofs.Adding.{adding_laws}
-use Rattle.ast_layer.proofs.Sizes.{length-unit_nodes, length-unit_edges}
 use Rattle.ast_layer.proofs.Reordering.{in_order-again}
 use Rattle.ast_layer.proofs.walk.syntax_layer.Goals as goal
-
-pub finish-requires-clause-nodes : goal.finish-requires-clause-nodes
-finish-requires-clause-nodes c =
-    let many = length-unit_nodes c.new-builder.result.file c.args.unit.now in
-    grind (arith, adding_laws, many)
-
-pub finish-requires-clause-edges : goal.finish-requires-clause-edges
-finish-requires-clause-edges c =
-    let many = length-unit_edges c.args.unit.now in
-    grind (arith, adding_laws, many)
 
 pub returns-clause-in_order : goal.returns-clause-in_order
 returns-clause-in_order c =
@@ -37,13 +26,3 @@ returns-clause-lines c =
     let nodes : layer_nodes (file_of c.args.source) layer ≡ unit_nodes (file_of c.args.source) c.args.unit.now = grind (arith, adding_laws) in
     let edges : layer_edges layer ≡ in_order (unit_edges c.args.unit.now) = grind arith in
     rw (nodes, edges, again) refl) (both c.finish.result _ _ c.finish.ensures.nodes c.finish.ensures.edges)
-
-pub returns-clause-nodes : goal.returns-clause-nodes
-returns-clause-nodes c =
-    let nodes : c.unit.new.self.nodes ≡ unit_nodes (file_of c.args.source) c.args.unit.now = grind (arith, adding_laws) in
-    IfOk-weaker c.finish.result _ _ (λ layer said. grind (arith, adding_laws, nodes)) c.finish.ensures.nodes
-
-pub returns-clause-edges : goal.returns-clause-edges
-returns-clause-edges c =
-    let edges : c.unit.new.self.edges ≡ unit_edges c.args.unit.now = grind (arith, adding_laws) in
-    IfOk-weaker c.finish.result _ _ (λ layer said. said ∙ ap in_order edges) c.finish.ensures.edges
