@@ -74,7 +74,7 @@ declarator_or_not (Some Text) = inr (λ h. h)
 declarator_or_not (Some Line) = inr (λ h. h)
 declarator_or_not (Some Pragma) = inr (λ h. h)
 
--- a closing bracket is the one behind its opening one
+-- A closing bracket is the one behind its opening one.
 pair_is : (o c : ℕ) → Closes o c → (c ≡ o + 1) × ((o ≡ 0) ⊎ (o ≡ 2) ⊎ (o ≡ 4))
 pair_is o c h = grind arith
 
@@ -96,14 +96,14 @@ closes_or_not o c = elim (cases_eq c (o + 1)) [
   ]
 ]
 
--- a token stands at a position, or none
+-- A token stands at a position, or none.
 token_or_none : (tokens : List Token) (at : ℕ) → ((k : Kind) × (kind_at tokens at ≡ Some k)) ⊎ (kind_at tokens at ≡ None)
 token_or_none tokens at = elim (cases_lt at (length tokens)) [
   | inl l ↦ inl (kind_here tokens at l)
   | inr l ↦ inr (kind_past tokens at l)
 ]
 
--- a mark stands at a position, or none
+-- A mark stands at a position, or none.
 mark_at_or_none : (tokens : List Token) (at : ℕ) → ((n : ℕ) × (kind_at tokens at ≡ Some (Mark n))) ⊎ ((n : ℕ) → kind_at tokens at ≡ Some (Mark n) → ⊥)
 mark_at_or_none tokens at = elim (token_or_none tokens at) [
   | inr e ↦ inr (λ n h. cc)
@@ -117,7 +117,7 @@ record Group (tokens : List Token) (at end : ℕ) : Type 0 where
   within : end + 1 ≤ length tokens
   group : IsGroup tokens at (end + 1)
 
--- a group begins at a position, or none
+-- A group begins at a position, or none.
 group_or_none : (tokens : List Token) (at end : ℕ) → IsBalancedTo tokens (at + 1) end → Group tokens at end ⊎ ((to : ℕ) → IsGroup tokens at to → ⊥)
 group_or_none tokens at end h = elim (mark_at_or_none tokens at) [
   | inr no_mark ↦ inr (λ to g. no_mark g.opening g.opens)
@@ -133,7 +133,7 @@ group_or_none tokens at end h = elim (mark_at_or_none tokens at) [
   ]
 ]
 
--- the longest balanced text that begins at a position, from those that begin later
+-- The longest balanced text that begins at a position, from those that begin later.
 end_exists : (tokens : List Token) (at : ℕ) → at < length tokens → ((k : ℕ) → at + 1 ≤ k → k ≤ length tokens → (to : ℕ) × IsBalancedTo tokens k to) → (to : ℕ) × IsBalancedTo tokens at to
 end_exists tokens at l later =
     let k = kind_here tokens at l in
@@ -160,7 +160,7 @@ ends_exist tokens (suc n) at e k low high =
       | inr d ↦ later k (omega arith) high
     ]
 
--- from each position the longest balanced text ends somewhere
+-- From each position the longest balanced text ends somewhere.
 balanced_exists : (tokens : List Token) (k : ℕ) → k ≤ length tokens → (to : ℕ) × IsBalancedTo tokens k to
 balanced_exists tokens k high = ends_exist tokens (length tokens) 0 (omega arith) k (omega arith) high
 
@@ -190,7 +190,7 @@ paren_or_not k = elim (mark_or_not k) [
   ]
 ]
 
--- parentheses follow from a position on, or none
+-- Parentheses follow from a position on, or none.
 parens_or_none : (tokens : List Token) (n from : ℕ) → length tokens ≤ from + n → Parens tokens from ⊎ ((to : ℕ) → AreParens tokens from to → ⊥)
 parens_or_none tokens zero from l = inr (λ to. no_parens tokens from to (kind_past tokens from (omega arith)))
 parens_or_none tokens (suc n) from l = elim (token_or_none tokens from) [
@@ -220,7 +220,7 @@ record Dropped (tokens : List Token) (before : Option Kind) (at : ℕ) : Type 0 
   low : at < to
   dropped : IsDropped tokens before at to
 
--- what is done with a token that is neither absent nor an attribute, nor names a symbol
+-- What is done with a token that is neither absent nor an attribute, nor names a symbol.
 other_kept : (tokens : List Token) (before : Option Kind) (at to : ℕ) (k : Kind) → kind_at tokens at ≡ Some k → (IsAbsent k → ⊥) → (k ≡ Key 57 → ⊥) →
     (k ≡ Key 59 → MayEndDeclarator before → (to : ℕ) → AreParens tokens (at + 1) to → ⊥) → IsDropped tokens before at to → ⊥
 other_kept tokens before at to k e here attribute asm (kept.IsDropped.absent j is gone) = here (absent_at tokens at k j e is gone)
@@ -235,7 +235,7 @@ kept_from tokens before at k e here attribute asm = record {
   good = λ bad. attribute (kind_once tokens at k (Key 57) e bad.word);
 }
 
--- a token is dropped, bad or kept
+-- A token is dropped, bad or kept.
 treatment_exists : (tokens : List Token) (before : Option Kind) (at : ℕ) (k : Kind) → kind_at tokens at ≡ Some k → Dropped tokens before at ⊎ IsBadAttribute tokens at ⊎ IsKept tokens before at k
 treatment_exists tokens before at k e =
     let follow = parens_or_none tokens (length tokens) (at + 1) (omega arith) in
@@ -265,7 +265,7 @@ record Stripped (tokens : List Token) (before : Option Kind) (at : ℕ) : Type 0
   strips : Strips tokens before at list stop
   ends : (kind_at tokens stop ≡ None) ⊎ IsBadAttribute tokens stop
 
--- from each position the stripping ends somewhere
+-- From each position the stripping ends somewhere.
 strips_exist : (tokens : List Token) (n : ℕ) (before : Option Kind) (at : ℕ) → length tokens ≤ at + n → Stripped tokens before at
 strips_exist tokens zero before at l =
     let end = kind_past tokens at (omega arith) in
@@ -284,7 +284,7 @@ strips_exist tokens (suc n) before at l = elim (token_or_none tokens at) [
   ]
 ]
 
--- tokens have a list that is kept, or a bad attribute
+-- Tokens have a list that is kept, or a bad attribute.
 pub some_stripping : (tokens : List Token) → ((list : List ℕ) × AreKept tokens list) ⊎ ((at : ℕ) × StopsStripping tokens at)
 some_stripping tokens =
     let all = strips_exist tokens (length tokens) None 0 (omega arith) in

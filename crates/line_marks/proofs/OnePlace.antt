@@ -1,7 +1,6 @@
 -- A text has one list of places and one list of files.
-use Rattle.std.proofs.Common.{◌≡◌, ◌⊎◌, ℕ, zero, suc, List, [], ◌∷◌, ◌++◌, Option, Some, None, length, refl, ap, sym, subst, ◌∙◌, arith, inl, inr}
+use Rattle.std.proofs.Common.{◌≡◌, ℕ, List, [], ◌∷◌, ◌++◌, Option, Some, None, refl, ap, sym, subst, ◌∙◌, inl, inr}
 use Rattle.std.specs.List.{AllZip, Contains, slice_get}
-use Rattle.std.proofs.lemmas.Option.{get_or_from_slice_get, slice_get_within}
 use Rattle.c_lexer.specs.declared.token.Token.{Token}
 use Rattle.c_lexer.proofs.Directives.{marker_once}
 use Rattle.line_marks.specs.declared.place.Place.{Place}
@@ -14,7 +13,7 @@ same_said s u a b =
     let g : f s.line s.file ≡ f u.line u.file = cc in
     g
 
--- a token says one thing
+-- A token says one thing.
 said_once : (bytes : List ℕ) (token : Token) (s u : Option Said) → Says bytes token s → Says bytes token u → s ≡ u
 said_once bytes token None None a b = refl
 said_once bytes token None (Some u) a b = absurd (a b.0)
@@ -34,7 +33,7 @@ says_once bytes (t ∷ tokens) (s ∷ says) (u ∷ more) a b =
     let rest = says_once bytes tokens says more a.1 b.1 in
     cc
 
--- names are added in one way
+-- Names are added in one way.
 adds_once : (a b c xs : List (List ℕ)) → AddsNames a xs b → AddsNames a xs c → b ≡ c
 adds_once a b c xs AddsNames.none AddsNames.none = refl
 adds_once a b c xs (AddsNames.known {names = ns} name there rest) (AddsNames.known name2 there2 rest2) = adds_once a b c ns rest rest2
@@ -42,7 +41,7 @@ adds_once a b c xs (AddsNames.known name there rest) (AddsNames.new name2 fresh 
 adds_once a b c xs (AddsNames.new name fresh rest) (AddsNames.known name2 there rest2) = absurd (fresh there)
 adds_once a b c xs (AddsNames.new {names = ns} name fresh rest) (AddsNames.new name2 fresh2 rest2) = adds_once (a ++ name ∷ []) b c ns rest rest2
 
--- no name stands at two positions
+-- No name stands at two positions.
 record Once (files : List (List ℕ)) : Type 0 where
   at : (i j : ℕ) (x : List ℕ) → slice_get files i ≡ Some x → slice_get files j ≡ Some x → i ≡ j
 
@@ -71,7 +70,7 @@ same_place p q a b =
     let g : f p.file p.line ≡ f q.file q.line = cc in
     g
 
--- a presumed place has one position and line
+-- A presumed place has one position and line.
 place_once : (files : List (List ℕ)) (ps qs : List Place) (presumed : List Presumed) → Once files → AllZip (IsPlaceOf files) ps presumed → AllZip (IsPlaceOf files) qs presumed → ps ≡ qs
 place_once files [] [] [] once a b = refl
 place_once files [] (q ∷ qs) [] once a b = absurd b
@@ -88,14 +87,14 @@ module _ (bytes : List ℕ) (tokens : List Token) (name : List ℕ) (places more
   same_says : a.says ≡ b.says
   same_says = says_once bytes tokens a.says b.says a.said b.said
 
-  -- a text has one list of files
+  -- A text has one list of files.
   pub files_once : files ≡ names
   files_once = adds_once [] files names (name ∷ names_said b.says) (subst (λ s. AddsNames [] (name ∷ names_said s) files) same_says a.files_are) b.files_are
 
   none_twice : Once files
   none_twice = adds_once_each [] files (name ∷ names_said a.says) a.files_are (record { at = λ i j x h g. absurd (cc) })
 
-  -- a text has one list of places
+  -- A text has one list of places.
   pub places_once : places ≡ more
   places_once =
       let these = subst (λ s. AllZip (IsPlaceOf files) places (presumed_places (first_presumption name) tokens s)) same_says a.places_are in

@@ -15,18 +15,18 @@ token_from bytes from stop [] i d h l = absurd (omega arith)
 token_from bytes from stop (token ∷ tokens) zero d h l = h.1
 token_from bytes from stop (token ∷ tokens) (suc i) d h l = token_from bytes token.end stop tokens i d h.2 (omega arith)
 
--- each of the tokens is one of the text
+-- Each of the tokens is one of the text.
 pub token_is : (bytes : List ℕ) (tokens : List Token) (i : ℕ) (d : Token) → AreTokensOf bytes tokens → i < length tokens → IsTokenOf bytes (get_or tokens i d)
 token_is bytes tokens i d h l = token_from bytes 0 (length bytes) tokens i d h l
 
--- its line is at most one more than the bytes are
+-- Its line is at most one more than the bytes are.
 pub line_small : (bytes : List ℕ) (t : Token) → IsTokenOf bytes t → t.line ≤ length bytes + 1
 line_small bytes t h =
     let few = count_by-le-length (λ byte. byte == line_feed) (take t.start bytes) in
     let line = h.line in
     omega (arith, length-take t.start bytes)
 
--- a line marker's bytes are a line marker
+-- A line marker's bytes are a line marker.
 pub marker_is : (bytes : List ℕ) (t : Token) → IsTokenOf bytes t → t.kind ≡ Line → IsLineMarker bytes t.start t.end
 marker_is bytes t h e = subst (Spells bytes t.start t.end) e h.longest.spelled
 
@@ -50,6 +50,6 @@ few_from bytes from stop (token ∷ tokens) h =
     let later = few_from bytes token.end stop tokens h.2 in
     omega arith
 
--- the tokens are no more than the bytes
+-- The tokens are no more than the bytes.
 pub few_tokens : (bytes : List ℕ) (tokens : List Token) → AreTokensOf bytes tokens → length tokens ≤ length bytes
 few_tokens bytes tokens h = let e = few_from bytes 0 (length bytes) tokens h in omega arith

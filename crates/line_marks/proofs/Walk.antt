@@ -13,12 +13,12 @@ use Rattle.line_marks.specs.declared.file_names.FileNames.{FileNames}
 use Rattle.line_marks.specs.Presumed.{AddsNames, IsPlaceOf, Presumed, Presumption, Said, Says, behind, first_presumption, name_said, names_said, presumed_at, presumed_places}
 use Rattle.line_marks.proofs.Names.{adds_append, adds_keep}
 
--- what is presumed behind all the tokens
+-- What is presumed behind all the tokens.
 abbrev pub behind_all : Presumption → List Token → List (Option Said) → Presumption
 behind_all before (token ∷ tokens) (said ∷ says) = behind_all (behind before token said) tokens says
 behind_all before _ _ = before
 
--- the tokens so far have these places, and the files and the presumption behind them are these
+-- The tokens so far have these places, and the files and the presumption behind them are these.
 pub record Walked (bytes name : List ℕ) (tokens : List Token) (places : List Place) (files : List (List ℕ)) (file from line : ℕ) : Type 0 where
   pub says : List (Option Said)
   pub said : AllZip (Says bytes) tokens says
@@ -58,7 +58,7 @@ module _ (bytes : List ℕ) (token : Token) (said : Option Said) where
 names_push : (says : List (Option Said)) (said : Option Said) → names_said (says ++ said ∷ []) ≡ names_said says ++ name_said said
 names_push says said = flat_map-append name_said says (said ∷ []) ∙ ap (λ names. names_said says ++ names) (append-nil (name_said said))
 
--- nothing is walked at first
+-- Nothing is walked at first.
 pub walked_none : (bytes name : List ℕ) (files : List (List ℕ)) (file : ℕ) → AddsNames [] (name ∷ []) files → slice_get files file ≡ Some name → Walked bytes name [] [] files file 1 1
 walked_none bytes name files file added here = record {
   says = [];
@@ -70,7 +70,7 @@ walked_none bytes name files file added here = record {
   line_is = refl;
 }
 
--- one more token
+-- One more token.
 walked_more : (bytes name : List ℕ) (tokens : List Token) (places : List Place) (files more : List (List ℕ)) (file from line file2 from2 line2 : ℕ)
     (token : Token) (said : Option Said) (place : Place) → (w : Walked bytes name tokens places files file from line) → Says bytes token said → AddsNames files (name_said said) more →
     place.file ≡ file → place.line ≡ line + (token.line - from) →
@@ -99,20 +99,20 @@ walked_more bytes name tokens places files more file from line file2 from2 line2
       line_is = line_now ∙ ap (λ (q : Presumption). q.line) (sym last);
     }
 
--- one more token that is no line marker
+-- One more token that is no line marker.
 pub walked_other : (bytes name : List ℕ) (tokens : List Token) (places : List Place) (files : List (List ℕ)) (file from line : ℕ) (token : Token) (place : Place) →
     Walked bytes name tokens places files file from line → (token.kind ≡ Line → ⊥) → place.file ≡ file → place.line ≡ line + (token.line - from) →
     Walked bytes name (tokens ++ token ∷ []) (places ++ place ∷ []) files file from line
 walked_other bytes name tokens places files file from line token place w other at_file at_line =
     walked_more bytes name tokens places files files file from line file from line token None place w other AddsNames.none at_file at_line w.file_is w.from_is w.line_is
 
--- the name of the file behind a marker
+-- The name of the file behind a marker.
 file_behind : (files more names : List (List ℕ)) (before after : ℕ) (o : Option (List ℕ)) (old : List ℕ) → AddsNames files names more → slice_get files before ≡ Some old →
     MatchOption o (after ≡ before) (λ name. slice_get more after ≡ Some name) → slice_get more after ≡ Some (unwrap_or o old)
 file_behind files more names before after None old added here same = ap (slice_get more) same ∙ adds_keep files more names before old added here
 file_behind files more names before after (Some name) old added here found = found
 
--- one more token that is a line marker
+-- One more token that is a line marker.
 pub walked_marker : (bytes name : List ℕ) (tokens : List Token) (places : List Place) (files more : FileNames) (before after : Kept) (token : Token) (place : Place) →
     Walked bytes name tokens places (names_of files) before.file before.from before.line → token.kind ≡ Line → IsBehind bytes token files more before after →
     place.file ≡ before.file → place.line ≡ before.line + (token.line - before.from) →
@@ -122,7 +122,7 @@ walked_marker bytes name tokens places files more before after token place w mar
     walked_more bytes name tokens places (names_of files) (names_of more) before.file before.from before.line after.file after.from after.line token (Some b.said) place w (marker, b.marker) b.added at_file at_line
     (file_behind (names_of files) (names_of more) (name_said (Some b.said)) before.file after.file b.said.file p.file b.added w.file_is b.file) b.from b.line
 
--- the same, of other names for the parts
+-- The same, of other names for the parts.
 pub walked_as : (bytes name : List ℕ) (tokens ts : List Token) (places ps : List Place) (files fs : List (List ℕ)) (before after : Kept) →
     Walked bytes name tokens places files before.file before.from before.line → ts ≡ tokens → ps ≡ places → fs ≡ files → after ≡ before →
     Walked bytes name ts ps fs after.file after.from after.line

@@ -61,7 +61,7 @@ fn is_bracket(kind: Kind) -> bool
 /// Where the group ends that begins at `at`, if one does. Balanced text stands from behind `at` to
 /// before `end`, and none goes on from there.
 fn group_end(tokens: &[Token], at: usize, end: usize) -> Option<usize>
-    requires small { length tokens.now < 2 ^ 32 }
+    requires few { length tokens.now < 2 ^ 32 }
     requires inside { IsBalancedTo tokens.now (at + 1) end }
     ensures group { Finds (IsGroup tokens.now at) result }
     ensures past { IfSome result (λ to. (to ≡ end + 1) × (to ≤ length tokens.now)) }
@@ -77,7 +77,7 @@ fn group_end(tokens: &[Token], at: usize, end: usize) -> Option<usize>
 
 /// Where the balanced text ends that begins at `at`, from where it ends for each later position.
 fn end_from(tokens: &[Token], ends: &[u32], at: usize) -> u32
-    requires small { length tokens.now < 2 ^ 32 }
+    requires few { length tokens.now < 2 ^ 32 }
     requires inside { at < length tokens.now }
     requires one_each { length ends.now ≡ length tokens.now + 1 }
     requires later { (k : ℕ) → at < k → k ≤ length tokens.now →
@@ -112,7 +112,7 @@ pub(crate) fn balanced_ends(alloc: Global, tokens: &[Token]) -> Result<Vec<u32>,
 
 /// Where the group ends that begins at `at`, if one does.
 pub(crate) fn group_from(tokens: &[Token], ends: &[u32], at: usize) -> Option<usize>
-    requires small { length tokens.now < 2 ^ 32 }
+    requires few { length tokens.now < 2 ^ 32 }
     requires inside { at < length tokens.now }
     requires ends { AreBalancedTo tokens.now ends.now }
     ensures group { Finds (IsGroup tokens.now at) result }

@@ -49,7 +49,7 @@ fn may_end_declarator(before: Option<Kind>) -> bool
 
 /// Where the parentheses end that follow from `from` on, if they do.
 fn parens_end(tokens: &[Token], ends: &[u32], from: usize) -> Option<usize>
-    requires small { length tokens.now < 2 ^ 32 }
+    requires few { length tokens.now < 2 ^ 32 }
     requires ends { AreBalancedTo tokens.now ends.now }
     ensures parens { Finds (AreParens tokens.now from) result }
     ensures past { IfSome result (λ to. (from < to) × (to ≤ length tokens.now)) }
@@ -75,7 +75,7 @@ fn treatment_at(
     at: usize,
     kind: Kind,
 ) -> Treatment
-    requires small { length tokens.now < 2 ^ 32 }
+    requires few { length tokens.now < 2 ^ 32 }
     requires ends { AreBalancedTo tokens.now ends.now }
     requires token { kind_at tokens.now at ≡ Some kind }
     ensures { IsTreatment tokens.now before at kind result }
@@ -103,7 +103,7 @@ fn treatment_at(
 /// and it names the symbol; any other is kept. Tokens have one list or one bad `__attribute__`
 /// (`laws`).
 pub fn strip(alloc: Global, tokens: &[Token]) -> Result<Vec<u32>, StripStop>
-    requires small { length tokens.now < 2 ^ 32 }
+    requires few { length tokens.now < 2 ^ 32 }
     ensures ok { IfOk result (λ kept. AreKept tokens.now kept.items) }
 
     // A refusal names the first bad `__attribute__`; want of memory alone needs none.

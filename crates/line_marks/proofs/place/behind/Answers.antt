@@ -1,4 +1,4 @@
-use Rattle.std.proofs.Common.{ℕ, ◌≡◌, ◌+◌, ◌≤◌, [], List, Option, Some, None, length, refl, sym, subst, ap, arith}
+use Rattle.std.proofs.Common.{ℕ, ◌≡◌, ◌+◌, [], List, Option, Some, None, length, refl, sym, subst, ap, arith}
 use Rattle.std.specs.Borrow.{Bor}
 use Rattle.c_lexer.specs.Directives.{IsMarkerOf}
 use Rattle.c_lexer.specs.Scanning.{name_of}

@@ -1,7 +1,6 @@
-use Rattle.std.proofs.Common.{rules, ℕ, ◌≡◌, ◌↔◌, ◌+◌, ◌∷◌, [], IsTrue, List, Some, length, map, slice_get, take, get_or, refl, subst, ap, arith}
+use Rattle.std.proofs.Common.{rules, ◌≡◌, ◌↔◌, ◌+◌, ◌∷◌, [], IsTrue, length, take, get_or, refl, subst, ap, arith}
 use Rattle.std.proofs.lemmas.Grind.{common_steps}
 use Rattle.std.proofs.lemmas.List.{take_more}
-use Rattle.std.specs.Borrow.{Bor}
 use Rattle.c_lexer.specs.declared.token.Kind.TheVariants.{Line, Word}
 use Rattle.c_lexer.specs.declared.token.Token.{Token}
 use Rattle.line_marks.specs.declared.place.Presumption.{Presumption}
@@ -12,7 +11,7 @@ use Rattle.line_marks.proofs.Walk.{walked_as, walked_marker, walked_none, walked
 use Rattle.line_marks.proofs.place.places_of.Goals as goal
 use Rattle.line_marks.proofs.place.places_of.Goals.{then-eq+in_ok-presumption, else-eq}
 
--- what stands for a token past the end
+-- What stands for a token past the end.
 abbrev blank : Token
 blank = record { kind = Word; start = 0; end = 0; line = 0; column = 0 }
 

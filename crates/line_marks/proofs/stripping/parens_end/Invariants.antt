@@ -2,7 +2,7 @@ use Rattle.std.proofs.Common.{ℕ, ◌-◌, ◌≤◌, length}
 use Rattle.line_marks.specs.Kept.{AreParens}
 use Rattle.line_marks.proofs.stripping.parens_end.Given as goal
 
--- only absent tokens are passed
+-- Only absent tokens are passed.
 abbrev pub invariant-loop-kind : goal.invariant-loop-kind
 invariant-loop-kind l = record {
   low : l.from ≤ l.at;

@@ -2,7 +2,7 @@ use Rattle.std.proofs.Common.{ℕ, ◌++◌, ◌-◌, List, None, length}
 use Rattle.line_marks.specs.Kept.{Strips}
 use Rattle.line_marks.proofs.stripping.strip.Given as goal
 
--- however the stripping goes on, it goes on so behind what is kept
+-- However the stripping goes on, it goes on so behind what is kept.
 abbrev pub invariant-loop-kind : goal.invariant-loop-kind
 invariant-loop-kind l =
     (rest : List ℕ) (stop : ℕ) → Strips l.tokens l.before l.at rest stop →
