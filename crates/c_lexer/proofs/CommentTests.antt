@@ -1,4 +1,4 @@
--- Whether something that is passed over stands at a place.
+-- Whether something that is passed over stands at a offset.
 use Rattle.std.proofs.Common.{◌≡◌, ℕ, ◌+◌, ◌<◌, ◌⊎◌, List, length, slice_index, refl, arith, inl, inr}
 use Rattle.std.proofs.lemmas.Bool.{cases_eq, cases_lt}
 use Rattle.c_lexer.specs.Bytes.{IsBlank, slash, asterisk, line_feed}
@@ -9,21 +9,21 @@ use Rattle.c_lexer.proofs.ClassTests.{blank_or_not}
 use Rattle.c_lexer.proofs.Comments.{pair_within}
 use Rattle.c_lexer.proofs.Decisions.{Decided, decided_by, both_or_not, either_or_not, less_or_not, first_or_none}
 
--- two bytes stand at the place, one after the other, or not
+-- two bytes stand at the offset, one after the other, or not
 pub pair_or_not : (bytes : List ℕ) (at first second : ℕ) → Decided (IsPair bytes at first second)
 pair_or_not bytes at first second =
     decided_by _ (IsPair bytes at first second)
     (λ p. record { first_is = p.0; second_is = p.1 }) (λ p. (p.first_is, p.second_is))
     (both_or_not _ _ (cases_eq (slice_index bytes at) first) (λ one. cases_eq (slice_index bytes (at + 1)) second))
 
--- a blank stands at the place or not
+-- a blank stands at the offset or not
 one_blank_or_not : (bytes : List ℕ) (from : ℕ) → Decided ((to : ℕ) × IsOneBlank bytes from to)
 one_blank_or_not bytes from =
     decided_by ((from < length bytes) × IsBlank (slice_index bytes from)) ((to : ℕ) × IsOneBlank bytes from to)
     (λ b. (from + 1, record { within = b.0; blank = b.1; one = refl })) (λ b. (b.1.within, b.1.blank))
     (both_or_not _ _ (less_or_not from (length bytes)) (λ within. blank_or_not (slice_index bytes from)))
 
--- a block comment begins at the place and ends, or not
+-- a block comment begins at the offset and ends, or not
 block_or_not : (bytes : List ℕ) (from : ℕ) → Decided ((to : ℕ) × IsBlockComment bytes from to)
 block_or_not bytes from =
     elim (pair_or_not bytes from slash asterisk) [
@@ -55,12 +55,12 @@ line_there bytes from opens =
       | inr none ↦ (length bytes, record { opens = opens; behind = omega arith; one_line = line_from bytes from (length bytes) opens none; ends = inl refl; within = omega arith })
     ]
 
--- a line comment stands at the place or not
+-- a line comment stands at the offset or not
 line_or_not : (bytes : List ℕ) (from : ℕ) → Decided ((to : ℕ) × IsLineComment bytes from to)
 line_or_not bytes from =
     decided_by _ ((to : ℕ) × IsLineComment bytes from to) (line_there bytes from) (λ l. l.1.opens) (pair_or_not bytes from slash slash)
 
--- something that is passed over whole stands at the place or not
+-- something that is passed over whole stands at the offset or not
 pub passed_or_not : (bytes : List ℕ) (from : ℕ) → Decided ((to : ℕ) × IsPassed bytes from to)
 passed_or_not bytes from =
     decided_by (((to : ℕ) × IsOneBlank bytes from to) ⊎ (((to : ℕ) × IsBlockComment bytes from to) ⊎ ((to : ℕ) × IsLineComment bytes from to))) ((to : ℕ) × IsPassed bytes from to)

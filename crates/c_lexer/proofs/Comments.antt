@@ -41,7 +41,7 @@ blank_no_comment : (bytes : List ℕ) (at : ℕ) → IsBlank (slice_index bytes 
 blank_no_comment bytes at blank (inl p) = let e = p.first_is in grind arith
 blank_no_comment bytes at blank (inr p) = let e = p.first_is in grind arith
 
--- one pair of bytes stands at a place
+-- one pair of bytes stands at a offset
 one_comment : (bytes : List ℕ) (at : ℕ) → IsPair bytes at slash asterisk → IsPair bytes at slash slash → ⊥
 one_comment bytes at p q = omega (arith, p.second_is, q.second_is)
 

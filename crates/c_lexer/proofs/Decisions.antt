@@ -56,9 +56,9 @@ same_or_not first second =
       | inr other ↦ inr (λ e. let same = decides.1 e in cc)
     ]
 
--- ---- Places
+-- ---- Offsets
 
--- the first place between two at which the fact holds
+-- the first offset between two at which the fact holds
 pub record HasFirst (P : ℕ → Type 0) (from to : ℕ) : Type 0 where
   pub at : ℕ
   pub low : from ≤ at
@@ -66,7 +66,7 @@ pub record HasFirst (P : ℕ → Type 0) (from to : ℕ) : Type 0 where
   pub holds : P at
   pub none : (i : ℕ) → from ≤ i → i < at → P i → ⊥
 
--- such a place or none
+-- such a offset or none
 pub first_or_none : (P : ℕ → Type 0) → ((i : ℕ) → Decided (P i)) → (from to : ℕ) → HasFirst P from to ⊎ ((i : ℕ) → from ≤ i → i < to → P i → ⊥)
 first_or_none P decide from zero = inr (λ i low high p. omega arith)
 first_or_none P decide from (suc to) =
@@ -81,7 +81,7 @@ first_or_none P decide from (suc to) =
       ]
     ]
 
--- what is known of each place holds of all between two or not
+-- what is known of each offset holds of all between two or not
 pub each_or_not : (P : ℕ → Type 0) → ((i : ℕ) → Decided (P i)) → (from to : ℕ) → Decided ((i : ℕ) → from ≤ i → i < to → P i)
 each_or_not P decide from to =
     elim (first_or_none (λ i. P i → ⊥) (λ i. no_or_not (P i) (decide i)) from to) [
@@ -89,7 +89,7 @@ each_or_not P decide from to =
       | inr none ↦ inl (λ i low high. elim (decide i) [ inl p ↦ p | inr no_p ↦ absurd (none i low high no_p) ])
     ]
 
--- it holds of some place or of none, where it holds of none past a bound
+-- it holds of some offset or of none, where it holds of none past a bound
 pub some_or_not : (P : ℕ → Type 0) → ((i : ℕ) → Decided (P i)) → (n : ℕ) → ((i : ℕ) → P i → i < n) → Decided ((i : ℕ) × P i)
 some_or_not P decide n bound =
     elim (first_or_none P decide 0 n) [

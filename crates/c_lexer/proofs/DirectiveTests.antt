@@ -1,4 +1,4 @@
--- Whether a line marker or a pragma stands between two places.
+-- Whether a line marker or a pragma stands between two offsets.
 use Rattle.std.proofs.Common.{◌≡◌, ℕ, suc, zero, ◌+◌, ◌-◌, ◌<◌, ◌≤◌, ◌⊎◌, List, Option, Some, None, codes, length, slice_index, slice_range, refl, arith, inl, inr}
 use Rattle.std.proofs.lemmas.Bool.{cases_eq}
 use Rattle.c_lexer.specs.Bytes.{double_quote, number_sign, IsDigit}
@@ -13,7 +13,7 @@ use Rattle.c_lexer.proofs.LiteralTests.{quoted_or_not}
 
 -- ---- Parts of a line marker
 
--- a gap stands between the places or not
+-- a gap stands between the offsets or not
 gap_or_not : (bytes : List ℕ) (from to : ℕ) → Decided (IsGap bytes from to)
 gap_or_not bytes from to =
     decided_by ((from < to) × AreLineBlanks bytes from to) (IsGap bytes from to)
@@ -24,7 +24,7 @@ gap_or_not bytes from to =
 gap_within : (bytes : List ℕ) (from to : ℕ) → IsGap bytes from to → from < length bytes
 gap_within bytes from to g = inside bytes from (let b = (g.blanks from (omega arith) g.some).0 in grind arith)
 
--- the number of a line stands between the places
+-- the number of a line stands between the offsets
 abbrev HasNumber : List ℕ → ℕ → ℕ → Type 0
 HasNumber bytes from to = (line : ℕ) × IsLineNumber bytes from to line
 
@@ -47,7 +47,7 @@ number_within bytes from to n =
     let end = inside bytes (to - 1) (omega arith) in
     (inside bytes from (omega arith), omega arith)
 
--- the name of a file stands between the places or not
+-- the name of a file stands between the offsets or not
 file_name_or_not : (bytes : List ℕ) (from to : ℕ) → Decided ((name : List ℕ) × IsFileName bytes from to name)
 file_name_or_not bytes from zero = inr (λ n. let end = n.1.end in omega arith)
 file_name_or_not bytes from (suc closing) =
@@ -58,7 +58,7 @@ file_name_or_not bytes from (suc closing) =
     (λ opening. both_or_not _ _ (gap_or_not bytes from opening) (λ gap. quoted_or_not bytes double_quote opening closing))
     (length bytes) (λ opening s. let quote = s.1.opens in inside bytes opening (omega arith)))
 
--- nothing or the name of a file stands between the places
+-- nothing or the name of a file stands between the offsets
 abbrev HasFilePart : List ℕ → ℕ → ℕ → Type 0
 HasFilePart bytes from to = (file : Option (List ℕ)) × IsFilePart bytes from to file
 
@@ -99,7 +99,7 @@ form_of : (bytes : List ℕ) (from to : ℕ) → AreFlags bytes from to → (fro
 form_of bytes from to none = inl refl
 form_of bytes from to (flag {digit = digit} gap low high rest) = inr (digit, (gap, (low, (high, rest))))
 
--- flags stand between the places, of which the first is at most n before the end of the text, or not
+-- flags stand between the offsets, of which the first is at most n before the end of the text, or not
 flags_or_not : (bytes : List ℕ) (n from to : ℕ) → length bytes ≤ from + n → Decided (AreFlags bytes from to)
 flags_or_not bytes zero from to l =
     decided_by (from ≡ to) (AreFlags bytes from to) (λ e. rw e none)
@@ -175,7 +175,7 @@ marker_of bytes from to begins sign ends l =
 line_of : (bytes : List ℕ) (from to line : ℕ) (file : Option (List ℕ)) → IsMarkerOf bytes from to line file → HasLine bytes from to
 line_of bytes from to line file m = (m.number, (m.gap, (m.past, ((line, m.line_number), (m.flags, ((file, m.file_part), m.flagged))))))
 
--- a line marker stands between the places or not
+-- a line marker stands between the offsets or not
 pub marker_or_not : (bytes : List ℕ) (from to : ℕ) → Decided (IsLineMarker bytes from to)
 marker_or_not bytes from to =
     decided_by (BeginsLine bytes from × ((slice_index bytes from ≡ number_sign) × (EndsLine bytes to × HasLine bytes from to))) (IsLineMarker bytes from to)
@@ -188,7 +188,7 @@ marker_or_not bytes from to =
 
 -- ---- Pragmas
 
--- the word of a pragma stands at the place, behind blanks, and its line goes on to the end
+-- the word of a pragma stands at the offset, behind blanks, and its line goes on to the end
 record HasWord (bytes : List ℕ) (from to word : ℕ) : Type 0 where
   behind : from + 1 ≤ word
   past : word + 6 ≤ to
@@ -208,7 +208,7 @@ pragma_word_or_not bytes from to word =
     both_or_not _ _ (same_or_not (slice_range bytes word (word + 6)) (codes "pragma")) (λ pragma.
     one_line_or_not bytes (word + 6) to)))))
 
--- a pragma stands between the places or not
+-- a pragma stands between the offsets or not
 pub pragma_or_not : (bytes : List ℕ) (from to : ℕ) → Decided (IsPragma bytes from to)
 pragma_or_not bytes from to =
     decided_by (BeginsLine bytes from × ((slice_index bytes from ≡ number_sign) × (EndsLine bytes to × ((word : ℕ) × HasWord bytes from to word)))) (IsPragma bytes from to)

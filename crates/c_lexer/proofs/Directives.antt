@@ -12,12 +12,11 @@ use Rattle.c_lexer.specs.declared.marker.FoundMarker.{FoundMarker}
 use Rattle.c_lexer.specs.declared.token.FoundToken.{FoundToken}
 use Rattle.c_lexer.specs.Spelling.{Spells}
 use Rattle.c_lexer.specs.declared.token.Kind.{Kind}
-use Rattle.c_lexer.specs.declared.token.Kind.TheVariants.{Line, Pragma}
-use Rattle.c_lexer.proofs.Parts.{part_place, part_first, run_more, run_once}
+use Rattle.c_lexer.proofs.Parts.{part_offset, part_first, run_more, run_once}
 use Rattle.c_lexer.proofs.Literals.{quoted_once, quoted_on_one_line, characters_forward}
 use Rattle.c_lexer.proofs.Lines.{inside, line_end, one_end, one_line_joined, byte_on_one_line, no_blank_past, blanks_once, blanks_on_one_line}
 
--- gaps from one place, each before a byte that is no blank, end at one place
+-- gaps from one offset, each before a byte that is no blank, end at one offset
 gap_once : (bytes : List ℕ) (from p q : ℕ) → IsGap bytes from p → IsGap bytes from q → (IsLineBlank (slice_index bytes p) → ⊥) → (IsLineBlank (slice_index bytes q) → ⊥) → p ≡ q
 gap_once bytes from p q a b f g = let l = a.some in let m = b.some in blanks_once bytes from p q (omega arith) (omega arith) a.blanks b.blanks f g
 
@@ -46,7 +45,7 @@ flags_stop bytes {p = p} {q = q} (flag {from = from} {digit = d} g l h r) (flag 
     let same : d ≡ c = gap_once bytes from d c g i (λ b. grind arith) (λ b. grind arith) in
     flags_stop bytes r (subst (λ digit. AreFlags bytes (digit + 1) q) (sym same) s) e f
 
--- flags from one place to the end of the line end at one place
+-- flags from one offset to the end of the line end at one offset
 flags_once : (bytes : List ℕ) {from p q : ℕ} → AreFlags bytes from p → AreFlags bytes from q → EndsLine bytes p → EndsLine bytes q → p ≡ q
 flags_once bytes a b e f = sym (flags_stop bytes a b (λ flag. no_gap_at_end bytes _ _ e flag.gap) f)
 
@@ -60,7 +59,7 @@ no_digit_behind : (bytes : List ℕ) (past flags to : ℕ) (file : Option (List 
 no_digit_behind bytes past flags to (Some name) part flagged e d = no_digit_at_gap bytes past part.opening part.gap d
 no_digit_behind bytes past flags to None part flagged e d = no_digit_at_flags bytes flagged e (rw part at d)
 
--- the numbers of a line from one place are one, each before a byte that is no digit
+-- the numbers of a line from one offset are one, each before a byte that is no digit
 number_once : (bytes : List ℕ) (from p q l m : ℕ) → IsLineNumber bytes from p l → IsLineNumber bytes from q m → (IsDigit (slice_index bytes p) → ⊥) → (IsDigit (slice_index bytes q) → ⊥) → (p ≡ q) × (l ≡ m)
 number_once bytes from p q l m a b f g =
     let some = a.some in
@@ -80,7 +79,7 @@ no_flag_at_quote bytes from opening gap quote (flag {digit = digit} g l h r) e =
 no_flag_at_name : (bytes : List ℕ) (from past : ℕ) (name : List ℕ) {to : ℕ} → IsFileName bytes from past name → AreFlags bytes from to → EndsLine bytes to → ⊥
 no_flag_at_name bytes from past name n flagged e = no_flag_at_quote bytes from n.opening n.gap n.quoted.opens flagged e
 
--- names from one place are one
+-- names from one offset are one
 name_once : (bytes : List ℕ) (from p q : ℕ) (name other : List ℕ) → IsFileName bytes from p name → IsFileName bytes from q other → (p ≡ q) × (name ≡ other)
 name_once bytes from p q name other a b =
     let x = a.quoted.opens in
@@ -106,7 +105,7 @@ file_once bytes from p q to past (Some name) (Some other) a b f g e l =
 no_blank_at_number : (bytes : List ℕ) (from to line : ℕ) → IsLineNumber bytes from to line → IsLineBlank (slice_index bytes from) → ⊥
 no_blank_at_number bytes from to line n b = let d = n.digits from (omega arith) n.some in grind arith
 
--- one line marker stands at a place
+-- one line marker stands at a offset
 pub marker_once : (bytes : List ℕ) (from p q l m : ℕ) (f g : Option (List ℕ)) → IsMarkerOf bytes from p l f → IsMarkerOf bytes from q m g → (p ≡ q) × (l ≡ m) × (f ≡ g)
 marker_once bytes from p q l m f g a b =
     let number : a.number ≡ b.number = gap_once bytes (from + 1) a.number b.number a.gap b.gap
@@ -126,7 +125,7 @@ letter_at_word : (bytes : List ℕ) (word : ℕ) → slice_range bytes word (wor
 letter_at_word bytes word h =
     sym (part_first bytes word (word + 6) (omega arith)) ∙ ap (λ text. slice_index text 0) h
 
--- one pragma stands at a place
+-- one pragma stands at a offset
 pragma_once : (bytes : List ℕ) (from p q : ℕ) → IsPragma bytes from p → IsPragma bytes from q → p ≡ q
 pragma_once bytes from p q a b =
     let x = letter_at_word bytes a.word a.pragma in
@@ -201,7 +200,7 @@ no_feed_in_word i l e = let passed = AllPass-from_list_all (λ byte. not (byte =
 -- the word of a pragma stands on one line
 word_on_one_line : (bytes : List ℕ) (word : ℕ) → slice_range bytes word (word + 6) ≡ codes "pragma" → OnOneLine bytes word (word + 6)
 word_on_one_line bytes word h i l m e =
-    let byte = rw h at (part_place bytes word (word + 6) i l m) in
+    let byte = rw h at (part_offset bytes word (word + 6) i l m) in
     no_feed_in_word (i - word) (omega arith) (byte ∙ e)
 
 -- a pragma has a byte

@@ -6,7 +6,7 @@ pub mod Tables
 pub mod Positions
 pub mod Finding
 pub mod Lines
-pub mod Places
+pub mod Offsets
 pub mod Numbers
 pub mod Literals
 pub mod Marks

@@ -1,4 +1,4 @@
--- Whether a line begins or ends at a place, and what stands on it.
+-- Whether a line begins or ends at a offset, and what stands on it.
 use Rattle.std.proofs.Common.{◌≡◌, ℕ, suc, zero, ◌+◌, ◌≤◌, ◌⊎◌, List, length, slice_index, refl, arith, inl, inr}
 use Rattle.std.proofs.lemmas.Bool.{cases_eq}
 use Rattle.c_lexer.specs.Bytes.{line_feed, IsLineBlank}
@@ -6,23 +6,23 @@ use Rattle.c_lexer.specs.Lines.{AreLineBlanks, OnOneLine, BeginsLine, EndsLine}
 use Rattle.c_lexer.proofs.ClassTests.{line_blank_or_not}
 use Rattle.c_lexer.proofs.Decisions.{Decided, decided_by, both_or_not, either_or_not, no_or_not, most_or_not, each_or_not, some_or_not}
 
--- only blanks of one line stand between the places or not
+-- only blanks of one line stand between the offsets or not
 pub blanks_or_not : (bytes : List ℕ) (from to : ℕ) → Decided (AreLineBlanks bytes from to)
 blanks_or_not bytes = each_or_not (λ i. IsLineBlank (slice_index bytes i)) (λ i. line_blank_or_not (slice_index bytes i))
 
--- no line feed stands between the places or one does
+-- no line feed stands between the offsets or one does
 pub one_line_or_not : (bytes : List ℕ) (from to : ℕ) → Decided (OnOneLine bytes from to)
 one_line_or_not bytes = each_or_not (λ i. slice_index bytes i ≡ line_feed → ⊥) (λ i. no_or_not (slice_index bytes i ≡ line_feed) (cases_eq (slice_index bytes i) line_feed))
 
--- the line ends at the place or not
+-- the line ends at the offset or not
 pub ends_line_or_not : (bytes : List ℕ) (at : ℕ) → Decided (EndsLine bytes at)
 ends_line_or_not bytes at = either_or_not (at ≡ length bytes) (slice_index bytes at ≡ line_feed) (cases_eq at (length bytes)) (cases_eq (slice_index bytes at) line_feed)
 
--- the text or a line of it begins at the place
+-- the text or a line of it begins at the offset
 abbrev IsStart : List ℕ → ℕ → Type 0
 IsStart bytes start = (start ≡ 0) ⊎ ((feed : ℕ) × (start ≡ feed + 1) × (slice_index bytes feed ≡ line_feed))
 
--- such a place or not
+-- such a offset or not
 start_or_not : (bytes : List ℕ) (start : ℕ) → Decided (IsStart bytes start)
 start_or_not bytes zero = inl (inl refl)
 start_or_not bytes (suc feed) =
@@ -34,7 +34,7 @@ start_or_not bytes (suc feed) =
       ])
     ]
 
--- only blanks stand before the place on its line or not
+-- only blanks stand before the offset on its line or not
 pub begins_line_or_not : (bytes : List ℕ) (at : ℕ) → Decided (BeginsLine bytes at)
 begins_line_or_not bytes at =
     decided_by _ (BeginsLine bytes at)

@@ -13,7 +13,7 @@ inside bytes at h = elim (cases_lt at (length bytes)) [
   | inr l ↦ absurd (omega (arith, get_or_past bytes at 0 l))
 ]
 
--- the place is within the text or its end, and no byte but a line feed stands there
+-- the offset is within the text or its end, and no byte but a line feed stands there
 pub record IsLineEnd (bytes : List ℕ) (at : ℕ) : Type 0 where
   pub within : at ≤ length bytes
   pub byte : (slice_index bytes at ≡ 0) ⊎ (slice_index bytes at ≡ line_feed)

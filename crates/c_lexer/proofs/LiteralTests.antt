@@ -1,4 +1,4 @@
--- Whether a literal stands between two places.
+-- Whether a literal stands between two offsets.
 use Rattle.std.proofs.Common.{◌≡◌, ℕ, suc, zero, ◌+◌, ◌<◌, ◌≤◌, ◌⊎◌, List, slice_range, slice_index, refl, arith, inl, inr}
 use Rattle.std.proofs.lemmas.Bool.{cases_eq}
 use Rattle.c_lexer.specs.Bytes.{line_feed, backslash, single_quote, double_quote}
@@ -35,7 +35,7 @@ form_of bytes quote from to none = inl refl
 form_of bytes quote from to (plain p h) = inr (inl (p, h))
 form_of bytes quote from to (escaped s f h) = inr (inr (s, (f, h)))
 
--- characters stand between the places, of which the second is at most n behind the first, or not
+-- characters stand between the offsets, of which the second is at most n behind the first, or not
 characters_or_not : (bytes : List ℕ) (quote n from to : ℕ) → to ≤ from + n → Decided (AreCharacters bytes quote from to)
 characters_or_not bytes quote zero from to l =
     decided_by (from ≡ to) (AreCharacters bytes quote from to)
@@ -48,7 +48,7 @@ characters_or_not bytes quote (suc n) from to l =
     both_or_not _ _ (no_or_not _ (cases_eq (slice_index bytes (from + 1)) line_feed)) (λ f.
     characters_or_not bytes quote n (from + 2) to (omega arith))))))
 
--- quotes with characters between them stand at the places or not
+-- quotes with characters between them stand at the offsets or not
 pub quoted_or_not : (bytes : List ℕ) (quote opening closing : ℕ) → Decided (IsQuoted bytes quote opening closing)
 quoted_or_not bytes quote opening closing =
     decided_by _ (IsQuoted bytes quote opening closing)
@@ -59,7 +59,7 @@ quoted_or_not bytes quote opening closing =
 
 -- ---- Literals
 
--- a literal whose quotes open at the place or not
+-- a literal whose quotes open at the offset or not
 opened_or_not : (prefixes : List (List ℕ)) (quote : ℕ) (bytes : List ℕ) (from opening to : ℕ) → Decided (IsOpenedAt prefixes quote bytes from opening to)
 opened_or_not prefixes quote bytes from opening zero = inr (λ o. let end = o.end in omega arith)
 opened_or_not prefixes quote bytes from opening (suc closing) =
@@ -68,12 +68,12 @@ opened_or_not prefixes quote bytes from opening (suc closing) =
     (λ o. let end = o.end in let same : o.closing ≡ closing = omega arith in (o.prefix, rw same at o.quoted))
     (both_or_not _ _ (contains_or_not prefixes (slice_range bytes from opening)) (λ prefix. quoted_or_not bytes quote opening closing))
 
--- the place where the quotes of a literal open, with more than so many bytes from there on
+-- the offset where the quotes of a literal open, with more than so many bytes from there on
 abbrev HasOpening : List (List ℕ) → ℕ → List ℕ → ℕ → ℕ → ℕ → Type 0
 HasOpening prefixes quote bytes from to least =
     (opening : ℕ) × ((from ≤ opening) × ((opening + least < to) × IsOpenedAt prefixes quote bytes from opening to))
 
--- such a place or none
+-- such a offset or none
 opening_or_not : (prefixes : List (List ℕ)) (quote : ℕ) (bytes : List ℕ) (from to least : ℕ) → Decided (HasOpening prefixes quote bytes from to least)
 opening_or_not prefixes quote bytes from to least =
     some_or_not (λ opening. (from ≤ opening) × ((opening + least < to) × IsOpenedAt prefixes quote bytes from opening to))
@@ -93,7 +93,7 @@ literal_of prefixes quote bytes from to least o = let opened = o.1.1.1 in record
   end = opened.end;
 }
 
--- a character constant stands between the places or not
+-- a character constant stands between the offsets or not
 pub char_or_not : (bytes : List ℕ) (from to : ℕ) → Decided (IsChar bytes from to)
 char_or_not bytes from to =
     decided_by (HasOpening char_prefixes single_quote bytes from to 2) (IsChar bytes from to)

@@ -9,10 +9,9 @@ use Rattle.c_lexer.specs.Literals.{IsPlain, AreCharacters, none, plain, escaped,
 use Rattle.c_lexer.specs.Scanning.{IsLiteralKind}
 use Rattle.c_lexer.specs.Spelling.{Spells, IsName}
 use Rattle.c_lexer.specs.declared.token.Kind.{Kind}
-use Rattle.c_lexer.specs.declared.token.Kind.TheVariants.{Char, Text}
 use Rattle.c_lexer.proofs.Classes.{is_name, name_is}
 use Rattle.c_lexer.proofs.Lines.{inside, one_line_joined, byte_on_one_line}
-use Rattle.c_lexer.proofs.Parts.{part_length, part_place, part_first}
+use Rattle.c_lexer.proofs.Parts.{part_length, part_offset, part_first}
 use Rattle.c_lexer.proofs.Tables.{row_passes}
 
 -- ---- Characters
@@ -52,7 +51,7 @@ characters_escaped bytes quote from to none b n = escaped b n none
 characters_escaped bytes quote from to (plain q h) b n = plain q (characters_escaped bytes quote (from + 1) to h b n)
 characters_escaped bytes quote from to (escaped s f h) b n = escaped s f (characters_escaped bytes quote (from + 2) to h b n)
 
--- of two runs of characters from one place one goes on with the other
+-- of two runs of characters from one offset one goes on with the other
 characters_compare : (bytes : List ℕ) (quote from p q : ℕ) → AreCharacters bytes quote from p → AreCharacters bytes quote from q → AreCharacters bytes quote p q ⊎ AreCharacters bytes quote q p
 characters_compare bytes quote from p q none k = inl k
 characters_compare bytes quote from p q (plain a h) none = inr (plain a h)
@@ -62,12 +61,12 @@ characters_compare bytes quote from p q (escaped s f h) none = inr (escaped s f 
 characters_compare bytes quote from p q (escaped s f h) (plain b k) = absurd (b.no_backslash s)
 characters_compare bytes quote from p q (escaped s f h) (escaped t g k) = characters_compare bytes quote (from + 2) p q h k
 
--- at the place no character begins
+-- at the offset no character begins
 pub record IsStop (bytes : List ℕ) (quote at : ℕ) : Type 0 where
   pub no_plain : IsPlain quote (slice_index bytes at) → ⊥
   pub no_escape : slice_index bytes at ≡ backslash → slice_index bytes (at + 1) ≡ line_feed
 
--- the quote is such a place
+-- the quote is such a offset
 quote_stops : (bytes : List ℕ) (quote at : ℕ) → (quote ≡ backslash → ⊥) → slice_index bytes at ≡ quote → IsStop bytes quote at
 quote_stops bytes quote at odd e = record { no_plain = λ p. p.no_quote e; no_escape = λ b. absurd (odd (cc)) }
 
@@ -85,7 +84,7 @@ characters_stop bytes quote from to s none = refl
 characters_stop bytes quote from to s (plain p h) = absurd (s.no_plain p)
 characters_stop bytes quote from to s (escaped b f h) = absurd (f (s.no_escape b))
 
--- characters come to one such place
+-- characters come to one such offset
 characters_stop_once : (bytes : List ℕ) (quote from p q : ℕ) → AreCharacters bytes quote from p → AreCharacters bytes quote from q → IsStop bytes quote p → IsStop bytes quote q → p ≡ q
 characters_stop_once bytes quote from p q h k s t =
     elim (characters_compare bytes quote from p q h k) [
@@ -98,7 +97,7 @@ characters_once : (bytes : List ℕ) (quote from p q : ℕ) → (quote ≡ backs
 characters_once bytes quote from p q odd h k s t =
     characters_stop_once bytes quote from p q h k (quote_stops bytes quote p odd s) (quote_stops bytes quote q odd t)
 
--- the quotes at a place are closed at one place
+-- the quotes at a offset are closed at one offset
 pub quoted_once : (bytes : List ℕ) (quote opening p q : ℕ) → (quote ≡ backslash → ⊥) → IsQuoted bytes quote opening p → IsQuoted bytes quote opening q → p ≡ q
 quoted_once bytes quote opening p q odd h k =
     characters_once bytes quote (opening + 1) p q odd h.characters k.characters h.closes k.closes
@@ -207,7 +206,7 @@ prefixed bytes from opening h l p =
       forward = h;
       short = omega (arith, p.short);
       first = λ a. rw (part_first bytes from opening a) at (p.first (omega arith));
-      each = λ i a b. rw (part_place bytes from opening i a b) at (p.each (i - from) (omega arith));
+      each = λ i a b. rw (part_offset bytes from opening i a b) at (p.each (i - from) (omega arith));
     }
 
 -- the quote that opens a literal is the quote
@@ -256,7 +255,7 @@ pub spelled_literal : (bytes : List ℕ) (from to : ℕ) (kind : Kind) → IsLit
 spelled_literal bytes from to kind (inl e) s = inl (subst (Spells bytes from to) e s)
 spelled_literal bytes from to kind (inr e) s = inr (subst (Spells bytes from to) e s)
 
--- word bytes stand from the place to a quote
+-- word bytes stand from the offset to a quote
 pub record Opens (bytes : List ℕ) (from opening : ℕ) : Type 0 where
   pub forward : from ≤ opening
   pub before : (i : ℕ) → from ≤ i → i < opening → IsWordByte (slice_index bytes i)
@@ -275,14 +274,14 @@ other_quote byte (inr e) other = absurd (other e)
 pub quoted_by_first : (bytes : List ℕ) (quote opening closing : ℕ) → IsQuoted bytes quote opening closing → IsQuoted bytes (slice_index bytes opening) opening closing
 quoted_by_first bytes quote opening closing q = rw q.opens q
 
--- a prefix, and quotes that open at the place, with characters between them
+-- a prefix, and quotes that open at the offset, with characters between them
 pub record IsOpenedAt (prefixes : List (List ℕ)) (quote : ℕ) (bytes : List ℕ) (from opening to : ℕ) : Type 0 where
   pub prefix : Contains prefixes (slice_range bytes from opening)
   pub closing : ℕ
   pub quoted : IsQuoted bytes quote opening closing
   pub end : to ≡ closing + 1
 
--- a literal whose quotes are known to open at the place
+-- a literal whose quotes are known to open at the offset
 pub literal_opened : (prefixes : List (List ℕ)) (quote : ℕ) (bytes : List ℕ) (from to opening : ℕ) → (l : IsLiteral prefixes quote bytes from to) → l.opening ≡ opening → IsOpenedAt prefixes quote bytes from opening to
 literal_opened prefixes quote bytes from to opening l e = record { prefix = rw e at l.prefix; closing = l.closing; quoted = rw e at l.quoted; end = l.end }
 

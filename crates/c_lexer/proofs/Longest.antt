@@ -1,4 +1,4 @@
--- Which token is the longest at a place.
+-- Which token is the longest at a offset.
 use Rattle.std.proofs.Common.{◌≡◌, ℕ, ◌+◌, ◌-◌, ◌<◌, ◌≤◌, ◌⊎◌, List, Option, Some, None, length, slice_range, slice_index, refl, arith, inl, inr}
 use Rattle.std.proofs.lemmas.Bool.{cases_order}
 use Rattle.c_lexer.specs.Bytes.{IsLetter, IsWordByte, number_sign, single_quote, double_quote}
@@ -14,7 +14,7 @@ use Rattle.c_lexer.specs.declared.mark.FoundMark.{FoundMark}
 use Rattle.c_lexer.proofs.Finding.{none_of_last}
 use Rattle.c_lexer.specs.declared.token.Kind.{Kind}
 use Rattle.c_lexer.specs.declared.token.Kind.TheVariants.{Word, Key, Number, Char, Text, Mark, Line, Pragma}
-use Rattle.c_lexer.proofs.Parts.{part_length, part_at, part_place, part_first}
+use Rattle.c_lexer.proofs.Parts.{part_length, part_at, part_offset, part_first}
 use Rattle.c_lexer.proofs.Tables.{keyword_name}
 use Rattle.c_lexer.proofs.Marks.{mark_reach, mark_on_one_line}
 use Rattle.c_lexer.proofs.Numbers.{number_on_one_line}
@@ -29,7 +29,7 @@ use Rattle.c_lexer.proofs.Firsts.{first_of_kind}
 name_on_one_line : (bytes : List ℕ) (from to : ℕ) → to ≤ length bytes → IsName (slice_range bytes from to) → OnOneLine bytes from to
 name_on_one_line bytes from to w n i a b e =
     let l = part_length bytes from to w in
-    let here = rw (part_place bytes from to i a b, e) at (n.each (i - from) (omega (arith, l))) in
+    let here = rw (part_offset bytes from to i a b, e) at (n.each (i - from) (omega (arith, l))) in
     grind arith
 
 -- a token stays on its line
@@ -53,7 +53,7 @@ longest_on_one_line bytes from to kind h = kind_on_one_line bytes from to kind h
 name_ends : (bytes : List ℕ) (from n past : ℕ) → from ≤ n → n < past → past ≤ length bytes → (IsWordByte (slice_index bytes n) → ⊥) → IsName (slice_range bytes from past) → ⊥
 name_ends bytes from n past a b w none s =
     let l = part_length bytes from past w in
-    none (rw (part_place bytes from past n a b) at (s.each (n - from) (omega (arith, l))))
+    none (rw (part_offset bytes from past n a b) at (s.each (n - from) (omega (arith, l))))
 
 -- a letter begins no number, no mark and no line with `#`
 module _ (bytes : List ℕ) (from to n : ℕ) (letter : IsLetter (slice_index bytes from)) (forward : from ≤ n) (behind : n ≤ to)

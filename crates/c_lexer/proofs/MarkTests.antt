@@ -1,4 +1,4 @@
--- Whether a mark stands between two places.
+-- Whether a mark stands between two offsets.
 use Rattle.std.proofs.Common.{ℕ, List, slice_range}
 use Rattle.c_lexer.specs.Bytes.{percent_sign, asterisk, slash, colon}
 use Rattle.c_lexer.specs.Entries.{numbers_of}
@@ -6,7 +6,7 @@ use Rattle.c_lexer.specs.Marks.{marks, IsMarkAt}
 use Rattle.c_lexer.proofs.CommentTests.{pair_or_not}
 use Rattle.c_lexer.proofs.Decisions.{Decided, decided_by, both_or_not, either_or_not, no_or_not, row_or_not}
 
--- a mark stands between the places or not
+-- a mark stands between the offsets or not
 pub mark_or_not : (bytes : List ℕ) (from to : ℕ) → Decided ((number : ℕ) × IsMarkAt bytes from to number)
 mark_or_not bytes from to =
     decided_by _ ((number : ℕ) × IsMarkAt bytes from to number)

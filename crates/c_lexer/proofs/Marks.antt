@@ -9,7 +9,7 @@ use Rattle.c_lexer.specs.Lines.{OnOneLine}
 use Rattle.c_lexer.specs.Entries.{numbers_of}
 use Rattle.c_lexer.specs.Marks.{marks, IsMark, IsMarkAt}
 use Rattle.c_lexer.specs.Scanning.{IsSecond}
-use Rattle.c_lexer.proofs.Parts.{part_length, part_at, part_place}
+use Rattle.c_lexer.proofs.Parts.{part_length, part_at, part_offset}
 use Rattle.c_lexer.proofs.Tables.{agree, one_number, row_passes}
 
 -- the rows of marks of one spelling have one number
@@ -119,22 +119,22 @@ pub mark_on_one_line : (bytes : List ℕ) (from to number : ℕ) → IsMarkAt by
 mark_on_one_line bytes from to number h within i low high =
     let size = part_length bytes from to within in
     let text = mark_text (slice_range bytes from to) number h.mark in
-    rw (part_place bytes from to i low high) at (text.each (i - from) (omega (arith, size))).no_feed
+    rw (part_offset bytes from to i low high) at (text.each (i - from) (omega (arith, size))).no_feed
 
--- no mark of the list stands between the places
+-- no mark of the list stands between the offsets
 abbrev pub NoMark : List ℕ → ℕ → ℕ → Type 0
 NoMark bytes from to = (number : ℕ) → IsMark (slice_range bytes from to) number → ⊥
 
--- no mark of the list that begins at the first place ends past the second
+-- no mark of the list that begins at the first offset ends past the second
 abbrev pub NoneLonger : List ℕ → ℕ → ℕ → Type 0
 NoneLonger bytes from end = (number past : ℕ) → end < past → past ≤ length bytes → IsMark (slice_range bytes from past) number → ⊥
 
--- what stands between the places ends within three bytes, and a second byte is one that marks may have
+-- what stands between the offsets ends within three bytes, and a second byte is one that marks may have
 pub record IsReach (bytes : List ℕ) (from to : ℕ) : Type 0 where
   pub near : to ≤ from + 3
   pub second : from + 2 ≤ to → IsSecond (slice_index bytes (from + 1))
 
--- a mark that stands between the places does so
+-- a mark that stands between the offsets does so
 pub mark_reach : (bytes : List ℕ) (from to number : ℕ) → to ≤ length bytes → IsMark (slice_range bytes from to) number → IsReach bytes from to
 mark_reach bytes from to number within h =
     let size = part_length bytes from to within in

@@ -7,7 +7,7 @@ use Rattle.c_lexer.specs.Bytes.{IsLetter, IsDigit, IsWordByte, full_stop, number
 use Rattle.c_lexer.specs.Spelling.{Spells, IsName}
 use Rattle.c_lexer.specs.declared.token.Kind.{Kind}
 use Rattle.c_lexer.specs.declared.token.Kind.TheVariants.{Word, Key, Number, Char, Text, Mark, Line, Pragma}
-use Rattle.c_lexer.proofs.Parts.{part_length, part_at, part_place}
+use Rattle.c_lexer.proofs.Parts.{part_length, part_at, part_offset}
 use Rattle.c_lexer.proofs.Classes.{is_letter, is_digit}
 use Rattle.c_lexer.proofs.Tables.{keyword_name, keyword_once}
 use Rattle.c_lexer.specs.Numbers.{IsNumber}
@@ -67,13 +67,13 @@ mark_sort first second last f s a b =
 line_sort : (first second last : ℕ) → first ≡ number_sign → sort_by first second last ≡ 0
 line_sort first second last f = grind (arith, nat_tests)
 
--- the sort of the part between two places; a second byte that is not there counts as 0
+-- the sort of the part between two offsets; a second byte that is not there counts as 0
 abbrev sort_at : List ℕ → ℕ → ℕ → ℕ
 sort_at bytes from to = sort_by (slice_index bytes from) (slice_index (slice_range bytes from to) 1) (slice_index bytes (to - 1))
 
 -- the last byte of a part, in the part
 last_of : (bytes : List ℕ) (from to : ℕ) → from < to → slice_index (slice_range bytes from to) (to - 1 - from) ≡ slice_index bytes (to - 1)
-last_of bytes from to h = part_place bytes from to (to - 1) (omega arith) (omega arith)
+last_of bytes from to h = part_offset bytes from to (to - 1) (omega arith) (omega arith)
 
 -- a name's last byte is a word byte
 name_last : (bytes : List ℕ) (from to : ℕ) → from < to → to ≤ length bytes → IsName (slice_range bytes from to) → IsWordByte (slice_index bytes (to - 1))

@@ -9,7 +9,7 @@ use Rattle.c_lexer.specs.declared.token.Kind.{Kind}
 use Rattle.c_lexer.proofs.Comments.{passed_once}
 use Rattle.c_lexer.proofs.OneKind.{one_kind}
 
--- what is passed over whole comes to one place
+-- what is passed over whole comes to one offset
 passes_once : (bytes : List ℕ) {from p q : ℕ} → PassesOver bytes from p → PassesOver bytes from q → ((past : ℕ) → IsPassed bytes p past → ⊥) → ((past : ℕ) → IsPassed bytes q past → ⊥) → p ≡ q
 passes_once bytes nothing nothing f g = refl
 passes_once bytes nothing (onward b r) f g = absurd (f _ b)
@@ -37,7 +37,7 @@ same_token t u a b c d e =
     let g : f t.kind t.start t.end t.line t.column ≡ f u.kind u.start u.end u.line u.column = cc in
     g
 
--- one token stands at a place
+-- one token stands at a offset
 one_token : (bytes : List ℕ) (t u : Token) → t.start ≡ u.start → IsTokenOf bytes t → IsTokenOf bytes u → t ≡ u
 one_token bytes t u e a b =
     let first = rw e at a.longest in
@@ -45,7 +45,7 @@ one_token bytes t u e a b =
     let part = rw ends at first.spelled in
     same_token t u (one_kind bytes u.start u.end t.kind u.kind b.longest.some b.longest.within part b.longest.spelled) e ends (a.line ∙ (ap (line_at bytes) e ∙ sym b.line)) (a.column ∙ (ap (column_at bytes) e ∙ sym b.column))
 
--- from a place the text is read in one way
+-- from a offset the text is read in one way
 one_reading : (bytes : List ℕ) (from : ℕ) (ts us : List Token) (p q : ℕ) → Reads bytes from ts p → Reads bytes from us q → (ts ≡ us) × (p ≡ q)
 one_reading bytes from [] [] p q a b = (refl, all_once bytes from p q a.0 b.0)
 one_reading bytes from [] (u ∷ us) p q a b =

@@ -69,11 +69,11 @@ spelled_or_not bytes from to =
     (either_or_not _ _ (number_or_not bytes from to) (either_or_not _ _ (char_or_not bytes from to) (either_or_not _ _ (text_or_not bytes from to)
     (either_or_not _ _ (mark_or_not bytes from to) (either_or_not _ _ (marker_or_not bytes from to) (pragma_or_not bytes from to))))))))
 
--- the longest token at a place
+-- the longest token at a offset
 abbrev HasLongest : List ℕ → ℕ → Type 0
 HasLongest bytes from = (to : ℕ) × (kind : Kind) × IsLongest bytes from to kind
 
--- the longest token at a place, where none ends past `from + n`, or none
+-- the longest token at a offset, where none ends past `from + n`, or none
 longest_up_to : (bytes : List ℕ) (from n : ℕ) → from + n ≤ length bytes → ((kind : Kind) (past : ℕ) → from + n < past → past ≤ length bytes → Spells bytes from past kind → ⊥) → HasLongest bytes from ⊎ BeginsNoToken bytes from
 longest_up_to bytes from zero h above = inr (λ kind to a b s. above kind to (omega arith) b s)
 longest_up_to bytes from (suc n) h above =
@@ -85,21 +85,21 @@ longest_up_to bytes from (suc n) h above =
       ])
     ]
 
--- the longest token at a place, or none
+-- the longest token at a offset, or none
 longest_or_none : (bytes : List ℕ) (from : ℕ) → from ≤ length bytes → HasLongest bytes from ⊎ BeginsNoToken bytes from
 longest_or_none bytes from h =
     longest_up_to bytes from (length bytes - from) (omega arith) (λ kind past a b s. absurd (omega arith))
 
 -- ---- Readings
 
--- from the place on the text is read
+-- from the offset on the text is read
 record HasReading (bytes : List ℕ) (from : ℕ) : Type 0 where
   tokens : List Token
   stop : ℕ
   within : stop ≤ length bytes
   reads : Reads bytes from tokens stop
 
--- from each place the text has a reading
+-- from each offset the text has a reading
 reading_from : (bytes : List ℕ) (n from : ℕ) → length bytes ≤ from + n → from ≤ length bytes → HasReading bytes from
 reading_from bytes zero from h l = record { tokens = []; stop = from; within = l; reads = reads_end bytes from (omega arith) }
 reading_from bytes (suc n) from h l =

@@ -16,7 +16,7 @@ passes_forward bytes (onward {from} {via} {to} p q) =
     let later = passes_forward bytes q in
     omega arith
 
--- from a place on no more tokens follow than bytes
+-- from a offset on no more tokens follow than bytes
 few_from : (bytes : List ℕ) (from stop : ℕ) (tokens : List Token) → Reads bytes from tokens stop → from + length tokens ≤ stop
 few_from bytes from stop [] h = let e = passes_forward bytes h.0.passed in omega arith
 few_from bytes from stop (token ∷ tokens) h =

@@ -1,4 +1,4 @@
-use Rattle.std.proofs.Common.{◌≡◌, ◌+◌, ◌<◌, refl, arith, inl, inr}
+use Rattle.std.proofs.Common.{refl, arith, inl, inr}
 use Rattle.c_lexer.proofs.Literals.{opens_at, other_quote, quoted_by_first, text_opened, char_opened, text_here, char_here, quoted_once, characters_forward}
 use Rattle.c_lexer.proofs.literal.literal_at.Goals as goal
 

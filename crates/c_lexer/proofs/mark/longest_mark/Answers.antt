@@ -1,6 +1,5 @@
 use Rattle.std.proofs.Common.{◌+◌, rules, arith}
 use Rattle.std.proofs.lemmas.Bool.{false≢true}
-use Rattle.c_lexer.specs.Marks.{IsMark}
 use Rattle.c_lexer.proofs.Finding.{Finds-at_none}
 use Rattle.c_lexer.proofs.Marks.{NoneLonger, none_past_three, none_past_two, none_past_one, none_of_two, none_at_all}
 use Rattle.c_lexer.proofs.mark.longest_mark.Goals as goal

@@ -5,7 +5,7 @@ use Rattle.c_lexer.specs.Scanning.{Point}
 use Rattle.c_lexer.specs.declared.token.Token.{Token}
 use Rattle.c_lexer.proofs.Lines.{one_line_joined}
 use Rattle.c_lexer.proofs.Longest.{longest_on_one_line}
-use Rattle.c_lexer.proofs.Places.{line_stays, column_of}
+use Rattle.c_lexer.proofs.Offsets.{line_stays, column_of}
 use Rattle.c_lexer.proofs.cursor.Cursor.take.Goals as goal
 
 pub invariant_of-self : goal.invariant_of-self
