@@ -1,5 +1,6 @@
 -- Two texts that are printed one after the other, and the end of printing.
-use Rattle.std.proofs.Common.{◌≡◌, ℕ, ◌⊎◌, inl, inr, Bool, true, false, List, [], ◌++◌, Result, Ok, Err, IsErr, OnOk, OnErr, refl, sym, ◌∙◌, ap, subst, append_assoc}
+use Rattle.std.proofs.Common.{◌≡◌, ℕ, ◌⊎◌, inl, inr, Bool, true, false, List, [], ◌++◌}
+use Rattle.std.proofs.Common.{Result, Ok, Err, IsErr, OnOk, OnErr, refl, sym, ◌∙◌, ap, subst, append_assoc}
 use Rattle.std.proofs.lemmas.Bool.{true≢false}
 use Rattle.std.proofs.lemmas.List.{append-nil}
 use Rattle.joern_io.specs.declared.files.Failed.{Failed}
@@ -11,7 +12,7 @@ is_true_or_false : (b : Bool) → (b ≡ true) ⊎ (b ≡ false)
 is_true_or_false true = inl refl
 is_true_or_false false = inr refl
 
--- what is kept of two texts
+-- What is kept of two texts.
 Keeps-then : {o p q : Output} {a b : List ℕ} → Keeps o p a → Keeps p q b → Keeps o q (a ++ b)
 Keeps-then {o} {p} {q} {a} {b} first second = record {
   gone = first.gone ++ second.gone;
@@ -24,7 +25,7 @@ Keeps-then {o} {p} {q} {a} {b} first second = record {
       ∙ append_assoc (printer_of o).bytes a b;
 }
 
--- a fault in the second text
+-- A fault in the second text.
 fault-second : (o p q : Output) (a b : List ℕ) → Keeps o p a →
     TakesPrefix (sink_of p) (sink_of q) ((printer_of p).bytes ++ b) →
     TakesPrefix (sink_of o) (sink_of q) ((printer_of o).bytes ++ (a ++ b))
@@ -35,14 +36,15 @@ fault-second o p q a b first second =
     ∙ append_assoc (printer_of o).bytes a b)
     (TakesPrefix-then first.taken second)
 
--- a fault in the first text
+-- A fault in the first text.
 fault-first : (o p q : Output) (a b : List ℕ) →
     TakesPrefix (sink_of o) (sink_of p) ((printer_of o).bytes ++ a) → sink_of q ≡ sink_of p →
     TakesPrefix (sink_of o) (sink_of q) ((printer_of o).bytes ++ (a ++ b))
 fault-first o p q a b first same =
     rw (same, ← append_assoc (printer_of o).bytes a b) (TakesPrefix-longer b first)
 
-pub Prints-then : {o p q : Output} {a b : List ℕ} → Prints o p a → Prints p q b → Prints o q (a ++ b)
+pub Prints-then : {o p q : Output} {a b : List ℕ} →
+    Prints o p a → Prints p q b → Prints o q (a ++ b)
 Prints-then {o} {p} {q} {a} {b} first second = record {
   no_fault = λ ends.
       let later = second.no_fault ends in
@@ -50,7 +52,8 @@ Prints-then {o} {p} {q} {a} {b} first second = record {
       (sooner.0, Keeps-then sooner.1 later.1);
   fault = λ ends begins.
       elim (is_true_or_false (printer_of p).failed) [
-        | inl failed ↦ fault-first o p q a b (first.fault failed begins) (second.after_fault failed).1
+        | inl failed ↦
+            fault-first o p q a b (first.fault failed begins) (second.after_fault failed).1
         | inr well ↦ fault-second o p q a b (first.no_fault well).1 (second.fault ends well)
       ];
   after_fault = λ begins.
@@ -59,7 +62,7 @@ Prints-then {o} {p} {q} {a} {b} first second = record {
       (later.0, later.1 ∙ sooner.1);
 }
 
--- nothing was printed
+-- Nothing was printed.
 pub Prints-none : (o : Output) → Prints o o []
 Prints-none o = record {
   no_fault = λ ends. (
@@ -74,7 +77,8 @@ Prints-none o = record {
   after_fault = λ begins. (begins, refl);
 }
 
--- A text was printed through a printer in which nothing waited, and then what still waited was taken: so the text was.
+-- A text was printed through a printer in which nothing waited, and then what still waited was
+-- taken: so the text was.
 Takes-finished : (o p : Output) (end : SinkState) (text : List ℕ) →
     (printer_of o).bytes ≡ [] → Prints o p text → (printer_of p).failed ≡ false →
     Takes (sink_of p) end (printer_of p).bytes → Takes (sink_of o) end text
@@ -83,7 +87,8 @@ Takes-finished o p end text nothing printed well last =
     let P : List ℕ → Type 0 = λ text. Takes (sink_of o) end text in
     subst P (kept.kept ∙ ap (λ front. front ++ text) nothing) (Takes-then kept.taken last)
 
--- A fault while a text was printed through such a printer, or at its end: a proper prefix of the text was taken.
+-- A fault while a text was printed through such a printer, or at its end: a proper prefix of the
+-- text was taken.
 TakesPrefix-finished : (o p : Output) (end : SinkState) (text : List ℕ) →
     (printer_of o).bytes ≡ [] → (printer_of o).failed ≡ false → Prints o p text →
     ((printer_of p).failed ≡ false → TakesPrefix (sink_of p) end (printer_of p).bytes) →
@@ -98,8 +103,9 @@ TakesPrefix-finished o p end text nothing begins printed unfinished same =
           (TakesPrefix-then kept.taken (unfinished well))
     ]
 
--- the same of the answers of `finish`
-pub on_ok-finished : (result : Result (Unit {0}) Failed) (o p : Output) (end : SinkState) (text : List ℕ) →
+-- The same of the answers of `finish`.
+pub on_ok-finished :
+    (result : Result (Unit {0}) Failed) (o p : Output) (end : SinkState) (text : List ℕ) →
     (printer_of o).bytes ≡ [] → Prints o p text →
     ((printer_of p).failed ≡ true → IsErr result × (end ≡ sink_of p)) →
     OnOk result (Takes (sink_of p) end (printer_of p).bytes) → OnOk result (Takes (sink_of o) end text)
@@ -110,10 +116,13 @@ on_ok-finished (Ok _) o p end text nothing printed after last =
     ]
 on_ok-finished (Err _) o p end text nothing printed after last = tt
 
-pub on_err-finished : (result : Result (Unit {0}) Failed) (o p : Output) (end : SinkState) (text : List ℕ) →
+pub on_err-finished :
+    (result : Result (Unit {0}) Failed) (o p : Output) (end : SinkState) (text : List ℕ) →
     (printer_of o).bytes ≡ [] → (printer_of o).failed ≡ false → Prints o p text →
     OnErr result ((printer_of p).failed ≡ false → TakesPrefix (sink_of p) end (printer_of p).bytes) →
-    ((printer_of p).failed ≡ true → IsErr result × (end ≡ sink_of p)) → OnErr result (TakesPrefix (sink_of o) end text)
+    ((printer_of p).failed ≡ true → IsErr result × (end ≡ sink_of p)) →
+    OnErr result (TakesPrefix (sink_of o) end text)
 on_err-finished (Ok _) o p end text nothing begins printed unfinished after = tt
 on_err-finished (Err _) o p end text nothing begins printed unfinished after =
-    TakesPrefix-finished o p end text nothing begins printed unfinished (λ failed. (after failed).1)
+    TakesPrefix-finished o p end text nothing begins printed unfinished
+    (λ failed. (after failed).1)

@@ -9,7 +9,7 @@ pub escaped-take-add : (at count : ℕ) (bytes : List ℕ) →
     escaped (take (at + count) bytes) ≡ escaped (take at bytes) ++ escaped (take count (drop at bytes))
 escaped-take-add at count bytes = ap escaped (take-add at count bytes) ∙ flat_map-append escape (take at bytes) (take count (drop at bytes))
 
--- plain bytes and one more byte
+-- Plain bytes and one more byte.
 pub escaped-plain_and_one : (plain : ℕ) (bytes : List ℕ) → plain < length bytes → escaped (take plain bytes) ≡ take plain bytes →
     escaped (take (plain + 1) bytes) ≡ take plain bytes ++ escape (get_or bytes plain 0)
 escaped-plain_and_one plain bytes below same =

@@ -1,5 +1,5 @@
 -- What is known of the bytes that a reader has left and that a writer holds, call after call.
-use Rattle.std.proofs.Common.{◌≡◌, ℕ, List, [], take, Option, Some, None, refl, ◌∙◌}
+use Rattle.std.proofs.Common.{ℕ, List, take, Option, Some, None, refl, ◌∙◌}
 use Rattle.std.proofs.lemmas.List.{append-nil}
 use Rattle.std.specs.Io.KnownBytes.{Keeps, Appends, Consumes}
 
@@ -13,21 +13,23 @@ Keeps-then (Some x) None c first second = absurd first
 Keeps-then (Some x) (Some y) None first second = absurd second
 Keeps-then (Some x) (Some y) (Some z) first second = second ∙ first
 
--- a reader that kept its bytes, and then lost some
-pub Consumes-then : (a b c : Option (List ℕ)) (bytes : List ℕ) → Keeps a b → Consumes b c bytes → Consumes a c bytes
+-- A reader that kept its bytes, and then lost some.
+pub Consumes-then : (a b c : Option (List ℕ)) (bytes : List ℕ) →
+    Keeps a b → Consumes b c bytes → Consumes a c bytes
 Consumes-then None b c bytes first second = tt
 Consumes-then (Some x) None c bytes first second = absurd first
 Consumes-then (Some x) (Some y) None bytes first second = absurd second
 Consumes-then (Some x) (Some y) (Some z) bytes first second = rw (← first) second
 
--- a writer that kept its bytes, and then took some
-pub Appends-then : (a b c : Option (List ℕ)) (bytes : List ℕ) → Keeps a b → Appends b c bytes → Appends a c bytes
+-- A writer that kept its bytes, and then took some.
+pub Appends-then : (a b c : Option (List ℕ)) (bytes : List ℕ) →
+    Keeps a b → Appends b c bytes → Appends a c bytes
 Appends-then None b c bytes first second = tt
 Appends-then (Some x) None c bytes first second = absurd first
 Appends-then (Some x) (Some y) None bytes first second = absurd second
 Appends-then (Some x) (Some y) (Some z) bytes first second = rw first at second
 
--- a writer that took none
+-- A writer that took none.
 pub Keeps-append : (a b : Option (List ℕ)) (piece : List ℕ) → Appends a b (take 0 piece) → Keeps a b
 Keeps-append None b piece took = tt
 Keeps-append (Some x) None piece took = absurd took

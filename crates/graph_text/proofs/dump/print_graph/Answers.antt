@@ -3,10 +3,14 @@ use Rattle.graph_text.proofs.dump.print_graph.Goals as goal
 
 pub returns-clause-ok : goal.returns-clause-ok
 returns-clause-ok g c =
-    rw c.requires.ordered (on_ok-finished c.finish.result _ _ _ _ c.new-printer.ensures.nothing
-    (Prints-then c.nodes.ensures c.edges.ensures) c.finish.ensures.after_fault c.finish.ensures.ok)
+    rw c.requires.ordered (on_ok-finished c.finish.result _ _ _ _
+    c.new-printer.ensures.nothing
+    (Prints-then c.nodes.ensures c.edges.ensures)
+    c.finish.ensures.after_fault c.finish.ensures.ok)
 
 pub returns-clause-failed : goal.returns-clause-failed
 returns-clause-failed g c =
-    rw c.requires.ordered (on_err-finished c.finish.result _ _ _ _ c.new-printer.ensures.nothing c.new-printer.ensures.no_fault
-    (Prints-then c.nodes.ensures c.edges.ensures) c.finish.ensures.failed c.finish.ensures.after_fault)
+    rw c.requires.ordered (on_err-finished c.finish.result _ _ _ _
+    c.new-printer.ensures.nothing c.new-printer.ensures.no_fault
+    (Prints-then c.nodes.ensures c.edges.ensures)
+    c.finish.ensures.failed c.finish.ensures.after_fault)

@@ -4,9 +4,12 @@ use Rattle.graph_text.proofs.line.print_line.Goals as goal
 pub returns-clause-ok : goal.returns-clause-ok
 returns-clause-ok g c =
     on_ok-finished c.finish.result _ _ _ _ c.new-printer.ensures.nothing
-    (Prints-then c.parts.ensures c.text.ensures) c.finish.ensures.after_fault c.finish.ensures.ok
+    (Prints-then c.parts.ensures c.text.ensures)
+    c.finish.ensures.after_fault c.finish.ensures.ok
 
 pub returns-clause-failed : goal.returns-clause-failed
 returns-clause-failed g c =
-    on_err-finished c.finish.result _ _ _ _ c.new-printer.ensures.nothing c.new-printer.ensures.no_fault
-    (Prints-then c.parts.ensures c.text.ensures) c.finish.ensures.failed c.finish.ensures.after_fault
+    on_err-finished c.finish.result _ _ _ _
+    c.new-printer.ensures.nothing c.new-printer.ensures.no_fault
+    (Prints-then c.parts.ensures c.text.ensures)
+    c.finish.ensures.failed c.finish.ensures.after_fault

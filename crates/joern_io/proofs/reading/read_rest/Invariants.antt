@@ -3,7 +3,7 @@ use Rattle.joern_io.specs.Files.{KeepsFiles}
 use Rattle.joern_io.proofs.Rest.{TookOff}
 use Rattle.joern_io.proofs.reading.read_rest.Given as goal
 
--- what was read and what is left are what was left at first
+-- What was read and what is left are what was left at first.
 abbrev pub invariant-loop-piece : goal.invariant-loop-piece
 invariant-loop-piece g l = record {
   keeps : KeepsFiles (g.F.Files.state l.fn.files) (g.F.Files.state l.files);

@@ -2,7 +2,7 @@ use Rattle.std.proofs.Common.{length, ◌-◌, ◌≤◌, take}
 use Rattle.joern_io.specs.Sinks.{Takes}
 use Rattle.joern_io.proofs.writing.write_all.Given as goal
 
--- the bytes before `at` were taken
+-- The bytes before `at` were taken.
 abbrev pub invariant-loop-at : goal.invariant-loop-at
 invariant-loop-at g l = record {
   within : l.at ≤ length l.bytes;

@@ -5,4 +5,5 @@ use Rattle.graph_text.proofs.printer.Printer.edges.Goals as goal
 
 pub loop-position-preserved : goal.loop-position-preserved
 loop-position-preserved g c =
-    rw (flat_map-take-one edge_line _ _ _ c.edge.ensures) (Prints-then c.loop-position.invariant c.edge-in-loop-position.ensures)
+    rw (flat_map-take-one edge_line _ _ _ c.edge.ensures)
+    (Prints-then c.loop-position.invariant c.edge-in-loop-position.ensures)

@@ -4,7 +4,8 @@ use Rattle.cpg_schema.specs.Lines.{edge_line}
 use Rattle.graph_text.specs.Printing.{Prints}
 use Rattle.graph_text.proofs.printer.Printer.edges.Given as goal
 
--- the lines so far were printed
+-- The lines so far were printed.
 abbrev pub invariant-loop-position : goal.invariant-loop-position
-invariant-loop-position g l = Prints (g.S.Sink.state l.fn.sink, l.fn.self) (g.S.Sink.state l.sink, l.self)
+invariant-loop-position g l =
+    Prints (g.S.Sink.state l.fn.sink, l.fn.self) (g.S.Sink.state l.sink, l.self)
     (flat_map edge_line (take l.position (g.G.GraphView.edges l.graph)))

@@ -8,4 +8,5 @@ returns-clause-printed g c =
     let plain = c.plain_len-plain.result in
     let bytes = c.args.bytes.now in
     let below : plain < length bytes = grind arith in
-    rw (escaped-plain_and_one plain bytes below c.plain_len-plain.ensures.plain) (Prints-then c.text.ensures c.escape.ensures)
+    rw (escaped-plain_and_one plain bytes below c.plain_len-plain.ensures.plain)
+    (Prints-then c.text.ensures c.escape.ensures)

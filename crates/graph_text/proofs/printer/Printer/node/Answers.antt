@@ -3,4 +3,6 @@ use Rattle.graph_text.proofs.printer.Printer.node.Goals as goal
 
 pub returns : goal.returns
 returns g c =
-    Prints-then (Prints-then (Prints-then (Prints-then (Prints-then c.text.ensures c.number.ensures) c.text-2.ensures) (rw c.name.ensures at c.verbatim.ensures)) c.properties.ensures) c.text-3.ensures
+    Prints-then (Prints-then (Prints-then (Prints-then
+    (Prints-then c.text.ensures c.number.ensures) c.text-2.ensures)
+    (rw c.name.ensures at c.verbatim.ensures)) c.properties.ensures) c.text-3.ensures

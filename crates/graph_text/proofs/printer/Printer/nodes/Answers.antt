@@ -4,4 +4,5 @@ use Rattle.graph_text.proofs.printer.Printer.nodes.Goals as goal
 
 pub loop-id-preserved : goal.loop-id-preserved
 loop-id-preserved g c =
-    rw (node_lines-take-one _ _ _ c.node.ensures) (Prints-then c.loop-id.invariant c.node-in-loop-id.ensures)
+    rw (node_lines-take-one _ _ _ c.node.ensures)
+    (Prints-then c.loop-id.invariant c.node-in-loop-id.ensures)

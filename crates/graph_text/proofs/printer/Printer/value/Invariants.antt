@@ -3,7 +3,7 @@ use Rattle.cpg_schema.specs.Values.{escaped}
 use Rattle.graph_text.specs.Printing.{Prints}
 use Rattle.graph_text.proofs.printer.Printer.value.Given as goal
 
--- the bytes before `at` were printed
+-- The bytes before `at` were printed.
 abbrev pub invariant-loop-at : goal.invariant-loop-at
 invariant-loop-at g l = record {
   within : l.at ≤ length l.bytes;
