@@ -50,7 +50,7 @@ write_fault_prefix_is run a decided blames written =
     let P : Held → Type 0 = λ held. IsDecided a → IsOutcome run.words held (outcome_of a) in
     let Q : Held → Type 0 = λ held. run.status ≡ status.WriteFault → WritesPrefix run held in
     if_told run.files_before.held P Q (λ held told rules is. prefix_written run held told a rules blames written is) decided
-    where
+  where
     prefix_written : (run : Run) (held : Held) → run.files_before.held ≡ Some held → (a : Answer) →
         (IsDecided a → IsOutcome run.words held (outcome_of a)) → Blames run a → IsWritten run a →
         run.status ≡ status.WriteFault → WritesPrefix run held

@@ -61,7 +61,12 @@ pub(crate) fn read_source<'a>(
     let Places { places, files } = places_of(alloc, text, &tokens, name)?;
     let unit = read_tree(alloc, text, &tokens, &kept)?;
     law_kept_positions();
-    let tokens = SourceTokens { tokens, kept, places, files };
+    let tokens = SourceTokens {
+        tokens,
+        kept,
+        places,
+        files,
+    };
     let layer = make_layer(alloc, name, text, &tokens, &unit)?;
     Ok(ReadSource {
         name,

@@ -75,9 +75,19 @@ fn a_refused_source_is_blamed_at_its_byte(rt: HostRuntime) -> Result<(), Fail> {
         ("# 7 \"x.c\"\nint $", 14, Reason::Byte, "2:5 byte"),
         ("int /* x", 4, Reason::Unclosed, "1:5 unclosed"),
         ("x;\n\"a", 3, Reason::Unclosed, "2:1 unclosed"),
-        ("int a;\nint __attribute__((b) c;", 11, Reason::Attribute, "2:5 attribute"),
+        (
+            "int a;\nint __attribute__((b) c;",
+            11,
+            Reason::Attribute,
+            "2:5 attribute",
+        ),
         // The token before it is not kept.
-        ("__extension__ __attribute__((", 14, Reason::Attribute, "1:15 attribute"),
+        (
+            "__extension__ __attribute__((",
+            14,
+            Reason::Attribute,
+            "1:15 attribute",
+        ),
         // A byte comes before an `__attribute__`, also where that stands further in front.
         ("__attribute__(( $", 16, Reason::Byte, "1:17 byte"),
         ("x", 0, Reason::Unbuilt, "1:1 unbuilt"),
@@ -85,13 +95,22 @@ fn a_refused_source_is_blamed_at_its_byte(rt: HostRuntime) -> Result<(), Fail> {
         ("struct s { int a[3]; };", 0, Reason::Unbuilt, "1:1 unbuilt"),
         ("int f(void){x=1*2;}", 0, Reason::Unbuilt, "1:1 unbuilt"),
         ("char f(void){}", 0, Reason::Unbuilt, "1:1 unbuilt"),
-        ("int f(void){} int f(void){}", 0, Reason::Unbuilt, "1:1 unbuilt"),
+        (
+            "int f(void){} int f(void){}",
+            0,
+            Reason::Unbuilt,
+            "1:1 unbuilt",
+        ),
         ("int f(void){a+b=c;}", 0, Reason::Unbuilt, "1:1 unbuilt"),
     ];
     for (source, at, reason, blamed) in cases {
         let run = dump(rt.alloc(), source.as_bytes())?;
         let file = 0;
-        assert_eq!(rt; run.status, Status::SourceRefused { file, at, reason }, "{source}");
+        assert_eq!(rt;
+            run.status,
+            Status::SourceRefused { file, at, reason },
+            "{source}"
+        );
         assert_eq!(rt; run.status.code(), 3);
         let line = format!(in rt.alloc(); "refused a.c:{blamed}\n")?;
         assert_eq!(rt; run.out.took(), line.as_bytes(), "{source}");
@@ -136,7 +155,11 @@ fn a_file_that_cannot_be_read_is_named(rt: HostRuntime) -> Result<(), Fail> {
         let bytes = Vec::from_elem(rt.alloc(), b' ', 17)?;
         let files = shelf(rt.alloc(), bytes, 8, &[fails])?;
         let run = run_on(rt.alloc(), &["--do", "dump", name], files, 64, &[])?;
-        assert_eq!(rt; run.status, Status::ReadFault { name: 0 }, "{name}, call {fails}");
+        assert_eq!(rt;
+            run.status,
+            Status::ReadFault { name: 0 },
+            "{name}, call {fails}"
+        );
         assert_eq!(rt; run.status.code(), 6);
         assert_eq!(rt; run.out.took(), line, "{name}, call {fails}");
         assert_eq!(rt; run.files.faults(), faults, "{name}, call {fails}");

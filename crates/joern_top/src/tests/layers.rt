@@ -27,7 +27,10 @@ pub(crate) const LAYERS: [(&str, &str); 11] = [
     // What the parser does not keep changes no line.
     ("int f(void){}", EMPTY),
     ("/* a */ int f(void)<%%> // b", EMPTY),
-    ("__extension__ int __attribute__((a)) f(void) __asm__(\"g\") {}", EMPTY),
+    (
+        "__extension__ int __attribute__((a)) f(void) __asm__(\"g\") {}",
+        EMPTY,
+    ),
     ("int f(void){}\n#pragma a", EMPTY),
     ("# 0 \"b.c\"\n# 1 \"a.c\" 2\nint f(void){}", EMPTY),
     // A function has the file and the line of its name, and its block those of its `{`.

@@ -17,4 +17,3 @@ returns c =
       kept_or_bad = stripping.not_both;
     } in
     record { some = some_outcome unique }
-
