@@ -1,5 +1,5 @@
 -- Where no device failed, the run ends as the rules say.
-use Rattle.std.proofs.Common.{◌≡◌, ℕ, ◌⊎◌, inl, inr, List, Option, Some, refl, sym, ◌∙◌}
+use Rattle.std.proofs.Common.{◌≡◌, ℕ, ◌⊎◌, inl, inr, List, Some, refl, sym, ◌∙◌}
 use Rattle.joern_io.specs.Files.{RoseOrLacks}
 use Rattle.joern_io.specs.Held.{Held}
 use Rattle.joern_top.specs.declared.status.Status.TheVariants as status

@@ -1,7 +1,6 @@
 -- What was read or refused is answered by the rules.
 use Rattle.std.proofs.Common.{◌≡◌, ℕ, ◌≤◌, List, length, Some, inr, sym, subst}
 use Rattle.c_lexer.specs.declared.source_text.TheConstants.{MAX_FILE_BYTES}
-use Rattle.c_lexer.specs.Lines.{line_at, column_at}
 use Rattle.joern_top.specs.declared.status.Status.TheVariants as status
 use Rattle.joern_top.specs.declared.read.ReadSource.{ReadSource}
 use Rattle.joern_top.specs.declared.refusal.Refusal.{Refusal}

@@ -8,16 +8,13 @@ use Rattle.c_lexer.specs.declared.source_text.TheConstants.{MAX_FILE_BYTES}
 use Rattle.c_lexer.specs.declared.token.Token.{Token}
 use Rattle.c_lexer.specs.declared.token.Kind.{Kind}
 use Rattle.c_lexer.specs.declared.token.Kind.TheVariants as kind
-use Rattle.c_lexer.specs.Reading.{AreTokensOf, Reads, LeavesOpen, StopsAt, IsTokenOf}
+use Rattle.c_lexer.specs.Reading.{AreTokensOf, Reads, StopsAt}
 use Rattle.c_lexer.specs.Spelling.{Spells}
 use Rattle.line_marks.specs.Presumed.{Presumed, Said, Says, first_presumption, presumed_places}
-use Rattle.c_tree.specs.declared.tree.Unit.{Unit}
-use Rattle.first_grammar.specs.FirstUnit.{IsFirstUnit}
-use Rattle.line_marks.specs.Kept.{items_at}
 use Rattle.joern_top.specs.Words.{Command, Dump, command}
 use Rattle.joern_top.specs.Source.{IsStrippedTo, ArePresumed}
 use Rattle.joern_top.specs.Refusals.IsRefusedAt.{byte, unclosed, attribute, unbuilt}
-use Rattle.joern_top.specs.Run.{Outcome, IsOutcome, IsCommandOutcome, IsFileOutcome, IsSourceOutcome, usage_outcome, read_fault_outcome, large_file_outcome, refused_outcome, graph_outcome}
+use Rattle.joern_top.specs.Run.{Outcome, IsOutcome, IsCommandOutcome, IsFileOutcome, IsSourceOutcome, usage_outcome, read_fault_outcome, large_file_outcome}
 use Rattle.joern_top.specs.Run.IsSourceOutcome.{refused, read}
 use Rattle.joern_top.proofs.Fate.{Unique, Fate, fate}
 use Rattle.joern_top.proofs.Fate.Fate.{stops, spoilt, stripped}
