@@ -1,16 +1,5 @@
 -- Deltas (ours): what is to be added to a graph, and the graph that this gives.
-use Rattle.std.specs.Prelude.{
-  ℕ,
-  zero,
-  suc,
-  ◌+◌,
-  List,
-  [],
-  ◌∷◌,
-  ◌++◌,
-  length,
-  map,
-}
+use Rattle.std.specs.Prelude.{ℕ, zero, suc, ◌+◌, ◌<◌, List, [], ◌∷◌, ◌++◌, length, map}
 use Rattle.cpg_schema.specs.declared.key.Key.{Key}
 use Rattle.cpg_schema.specs.declared.edge_kind.EdgeKind.{EdgeKind}
 use Rattle.cpg_schema.specs.declared.end.End.{End}
@@ -47,6 +36,20 @@ abbrev pub changed_at : {A : Type 0} → ℕ → (A → A) → List A → List A
 changed_at position change [] = []
 changed_at zero change (first ∷ rest) = change first ∷ rest
 changed_at (suc position) change (first ∷ rest) = first ∷ changed_at position change rest
+
+-- A new end is one of so many new nodes.
+abbrev pub IsNewEnd : ℕ → End → Type 0
+IsNewEnd count (Old node) = Unit {0}
+IsNewEnd count (New position) = position < count
+
+-- The delta with a property set: at a new node at once, and at a node of the graph as a setting.
+abbrev pub set_at : End → Key → Property → PlainDelta → PlainDelta
+set_at (Old node) key value delta = record delta {
+  settings = delta.settings ++ record { node = node; key = key; value = value } ∷ [];
+}
+set_at (New position) key value delta = record delta {
+  nodes = changed_at position (with_property key value) delta.nodes;
+}
 
 -- The nodes with a setting, and with all of some settings, from the first on.
 abbrev pub with_setting : Setting → List PlainNode → List PlainNode

@@ -1,18 +1,6 @@
 -- When a delta fits a graph (ours).
-use Rattle.std.specs.Prelude.{
-  ℕ,
-  ◌≡◌,
-  ◌<◌,
-  IsTrue,
-  List,
-  [],
-  ◌∷◌,
-  ◌++◌,
-  Some,
-  length,
-  map,
-  slice_get,
-}
+use Rattle.std.specs.Prelude.{ℕ, ◌≡◌, ◌<◌, IsTrue, List, [], ◌∷◌, ◌++◌, Some, length, map}
+use Rattle.std.specs.Prelude.{slice_get}
 use Rattle.std.specs.List.{All}
 use Rattle.cpg_schema.specs.declared.end.End.{End}
 use Rattle.cpg_schema.specs.declared.end.End.TheVariants.{Old, New}
@@ -52,5 +40,6 @@ pub record Fits (graph : PlainGraph) (delta : PlainDelta) : Type 0 where
   pub old_from : All (λ (edge : NewEdge). IsOldEnd (length graph.nodes) edge.from) delta.edges
   pub old_to : All (λ (edge : NewEdge). IsOldEnd (length graph.nodes) edge.to) delta.edges
   pub allowed :
-      All (IsEdgeAmong (graph.nodes ++ delta.nodes)) (map (added_edge (length graph.nodes)) delta.edges)
+      All (IsEdgeAmong (graph.nodes ++ delta.nodes))
+      (map (added_edge (length graph.nodes)) delta.edges)
   pub settings : AreNewSettings graph.nodes delta.settings

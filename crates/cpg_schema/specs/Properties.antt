@@ -1,5 +1,5 @@
 -- The properties of a node (ours), by their keys.
-use Rattle.std.specs.Prelude.{ℕ, ◌≡◌, Bool, true, false, List, Option, Some, None}
+use Rattle.std.specs.Prelude.{ℕ, ◌≡◌, Bool, true, false, not, IsTrue, List, Option, Some, None}
 use Rattle.cpg_schema.specs.declared.key.Key.{Key}
 use Rattle.cpg_schema.specs.declared.key.Key.TheVariants as key
 use Rattle.cpg_schema.specs.Graph.{PlainNode}
@@ -15,6 +15,11 @@ is_number_key key.LineNumber = true
 is_number_key key.Order = true
 is_number_key key.ArgumentIndex = true
 is_number_key _ = false
+
+-- The value is a number where the key's values are, and a text where they are not.
+abbrev pub HasForm : Key → Property → Type 0
+HasForm key (Property.text value) = IsTrue (not (is_number_key key))
+HasForm key (Property.number value) = IsTrue (is_number_key key)
 
 -- The text that a node has of this key.
 abbrev pub text_of : Key → PlainNode → Option (List ℕ)

@@ -3,28 +3,13 @@
 use Rattle.std.specs.Prelude.{◌&&◌, ◌==◌, Bool, List, [], ◌∷◌, ◌++◌}
 use Rattle.std.specs.List.{list_any}
 use Rattle.cpg_schema.specs.declared.label.Label.{Label}
-use Rattle.cpg_schema.specs.declared.label.Label.TheVariants.{
-  File,
-  NamespaceBlock,
-  Method,
-  MethodParameterIn,
-  MethodParameterOut,
-  MethodReturn,
-  TypeNode,
-  TypeDecl,
-  Member,
-  Block,
-  Call,
-  ControlStructure,
-  Identifier,
-  FieldIdentifier,
-  Literal,
-  Local,
-  MethodRef,
-  TypeRef,
-  JumpTarget,
-  Return,
-}
+use Rattle.cpg_schema.specs.declared.label.Label.TheVariants.{File, NamespaceBlock, Method}
+use Rattle.cpg_schema.specs.declared.label.Label.TheVariants.{MethodParameterIn, MethodParameterOut}
+use Rattle.cpg_schema.specs.declared.label.Label.TheVariants.{MethodReturn, TypeNode, TypeDecl}
+use Rattle.cpg_schema.specs.declared.label.Label.TheVariants.{Member, Block, Call, ControlStructure}
+use Rattle.cpg_schema.specs.declared.label.Label.TheVariants.{Identifier, FieldIdentifier, Literal}
+use Rattle.cpg_schema.specs.declared.label.Label.TheVariants.{Local, MethodRef, TypeRef, JumpTarget}
+use Rattle.cpg_schema.specs.declared.label.Label.TheVariants.{Return}
 use Rattle.cpg_schema.specs.declared.edge_kind.EdgeKind.{EdgeKind}
 use Rattle.cpg_schema.specs.declared.edge_kind.EdgeKind.TheVariants as edge_kind
 use Rattle.cpg_schema.specs.Names.{label_rank}

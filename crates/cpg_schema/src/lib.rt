@@ -1,5 +1,5 @@
-//! The schema of the code property graph: labels, property keys, edge kinds and what edges may join;
-//! and in `specs/` the plain graph, what is added to it, and its printed lines.
+//! The schema of the code property graph: labels, property keys, edge kinds and what they join; and
+//! in `specs/` the plain graph, what is added to it, and its printed lines.
 #![tactic(auto)]
 
 mod caps;
