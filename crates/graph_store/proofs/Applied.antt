@@ -106,7 +106,6 @@ module _ (a b more : List (List ℕ)) (nodes : List NodeRow) (edges : List Edge)
         record {
           few_nodes = omega arith;
           few_edges = omega arith;
-          caps_small = kept.caps_small;
           few_names = few;
           empty = empty_kept;
           texts = All-append (HasNames (length b)) (rows_with_settings numbers settings nodes) (map (renumbered numbers) others)
@@ -119,13 +118,13 @@ module _ (a b more : List (List ℕ)) (nodes : List NodeRow) (edges : List Edge)
           among = among_after;
         }
 
-    number_small : (p : EndRow) → IsOldEnd (length nodes) (plain_end p) → IsNewEnd (length others) (plain_end p) → end_row_number (length nodes) p < 4294967296
-    number_small (end_row.Old n) old new = let small = kept.caps_small in omega arith
-    number_small (end_row.New n) old new = let small = kept.caps_small in omega arith
+    number_small : caps.nodes < 4294967296 → (p : EndRow) → IsOldEnd (length nodes) (plain_end p) → IsNewEnd (length others) (plain_end p) → end_row_number (length nodes) p < 4294967296
+    number_small small (end_row.Old n) old new = omega arith
+    number_small small (end_row.New n) old new = omega arith
 
     -- the numbers of all ends are small
-    pub ends_small : All (λ (x : NewEdgeRow). (end_row_number (length nodes) x.from < 4294967296) × (end_row_number (length nodes) x.to < 4294967296)) additions
-    ends_small =
+    pub ends_small : caps.nodes < 4294967296 → All (λ (x : NewEdgeRow). (end_row_number (length nodes) x.from < 4294967296) × (end_row_number (length nodes) x.to < 4294967296)) additions
+    ends_small small =
         let size = length-map nodes (plain_node a) in
         by additions delta.additions (subst (λ (n : ℕ). All (λ (edge : NewEdge). IsOldEnd n edge.from) (map (plain_new_edge more) additions)) size fits.old_from)
         (subst (λ (n : ℕ). All (λ (edge : NewEdge). IsOldEnd n edge.to) (map (plain_new_edge more) additions)) size fits.old_to)
@@ -140,7 +139,7 @@ module _ (a b more : List (List ℕ)) (nodes : List NodeRow) (edges : List Edge)
             let from_one = All-head (λ (edge : NewEdge). IsOldEnd (length nodes) edge.from) (plain_new_edge more x) (map (plain_new_edge more) xs) from in
             let to_one = All-head (λ (edge : NewEdge). IsOldEnd (length nodes) edge.to) (plain_new_edge more x) (map (plain_new_edge more) xs) to in
             let both : (end_row_number (length nodes) x.from < 4294967296) × (end_row_number (length nodes) x.to < 4294967296) =
-            (number_small x.from from_one one.from, number_small x.to to_one one.to) in
+            (number_small small x.from from_one one.from, number_small small x.to to_one one.to) in
             All-cons (λ (x : NewEdgeRow). (end_row_number (length nodes) x.from < 4294967296) × (end_row_number (length nodes) x.to < 4294967296)) x xs both
             (by xs (All-tail (IsNewEdgeRow (length others) (length more)) x xs all)
             (All-tail (λ (edge : NewEdge). IsOldEnd (length nodes) edge.from) (plain_new_edge more x) (map (plain_new_edge more) xs) from)

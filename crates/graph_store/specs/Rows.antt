@@ -1,6 +1,6 @@
 -- The rows of a graph, and what they stand for. A text is the number of a pooled name, and `NO_NAME`,
 -- which is past all names, where there is none.
-use Rattle.std.specs.Prelude.{ℕ, ◌≡◌, ◌<◌, ◌≤◌, ◌⊎◌, ◌^◌, Bool, if◌then◌else◌, List, [], Option}
+use Rattle.std.specs.Prelude.{ℕ, ◌≡◌, ◌<◌, ◌≤◌, ◌⊎◌, Bool, if◌then◌else◌, List, [], Option}
 use Rattle.std.specs.Prelude.{Some, None, length, map, slice_get, slice_index_or}
 use Rattle.std.specs.List.{All}
 use Rattle.cpg_schema.specs.declared.key.Key.{Key}
@@ -96,7 +96,6 @@ pub record AreGraphRows
     (rows : List NodeRow) (edges : List Edge) (names : List (List ℕ)) (caps : Caps) : Type 0 where
   pub few_nodes : length rows ≤ caps.nodes
   pub few_edges : length edges ≤ caps.edges
-  pub caps_small : caps.nodes < 2 ^ 32
   pub few_names : length names ≤ NO_NAME
   pub empty : slice_get names 0 ≡ Some []
   pub texts : All (HasNames (length names)) rows

@@ -65,6 +65,7 @@ impl Graph {
     pub fn len(&self) -> u32
         ensures { result ≡ length self.now.nodes }
     {
+        let _cap = self.caps.nodes;
         self.nodes.len() as u32
     }
 

@@ -1,4 +1,4 @@
-use Rattle.std.proofs.Common.{◌≡◌, ◌+◌, ◌≤◌, ◌++◌, List, length, map, drop, ap, ◌∙◌, arith}
+use Rattle.std.proofs.Common.{◌≡◌, ◌+◌, ◌<◌, ◌≤◌, ◌++◌, List, length, map, drop, ap, ◌∙◌, arith}
 use Rattle.std.proofs.lemmas.List.{length-map, take_at}
 use Rattle.cpg_schema.specs.Deltas.{applied}
 use Rattle.graph_store.specs.declared.node_row.NodeRow.{NodeRow}
@@ -27,9 +27,10 @@ append_edges-requires-clause-few c =
     let first : c.len-first.result ≡ length g.nodes.items = omega arith in
     let nodes_fit : length g.nodes.items + length o.nodes.items ≤ g.caps.nodes = omega arith in
     let edges_fit : length g.edges.items + length o.edges.items ≤ g.caps.edges = omega arith in
+    let small : g.caps.nodes < 4294967296 = omega arith in
     rw (c.deref-5.ensures.value, first)
     (ends_small g.names c.add_all.new.self o.names g.nodes.items g.edges.items g.caps o.nodes.items o.edges.items o.settings.items c.in_ok-numbers.numbers.items
-    c.in_ok-numbers.ensures.adds c.in_ok-numbers.ensures.few c.in_ok-numbers.ensures.numbers c.graph.invariant c.delta.invariant fits nodes_fit edges_fit)
+    c.in_ok-numbers.ensures.adds c.in_ok-numbers.ensures.few c.in_ok-numbers.ensures.numbers c.graph.invariant c.delta.invariant fits nodes_fit edges_fit small)
 
 pub invariant_of-graph-2 : goal.invariant_of-graph-2
 invariant_of-graph-2 c =

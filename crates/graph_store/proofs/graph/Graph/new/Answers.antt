@@ -16,7 +16,6 @@ invariant_of-result c =
     rw (c.new.ensures.items, c.new-2.ensures.items, names) (record {
       few_nodes = omega arith;
       few_edges = omega arith;
-      caps_small = c.ranges.caps.nodes;
       few_names = omega arith;
       empty = refl;
       texts = All-nil _;
