@@ -4,8 +4,7 @@ ghost use Rattle.std.specs.Prelude.{◌≡◌, ◌↔◌, ◌+◌, ◌<◌, ◌�
 ghost use Rattle.std.specs.Prelude.{OnOk, OnErr};
 ghost use Rattle.std.specs.List.{All};
 ghost use Rattle.cpg_schema.specs.Fitting.{Fits};
-ghost use Rattle.cpg_schema.specs.Deltas.{applied};
-ghost use Rattle.graph_store.specs.Stored.{plain};
+ghost use Rattle.graph_store.specs.Stored.{Grows, plain};
 ghost use Rattle.graph_store.specs.Rows.{renumbered};
 ghost use Rattle.graph_store.specs.GrownRows.{rows_with_settings, edge_of_row, end_row_number};
 ghost use Rattle.graph_store.specs.GrownRows.{row_with_value};
@@ -40,17 +39,16 @@ impl From<AllocError> for ApplyStop {
     }
 }
 
-/// Adds a delta to a graph. New node k is then the node `len + k`.
+/// Adds a delta to a graph. The new node k is then the node `len + k`.
 pub fn apply(graph: &mut Graph, delta: &Delta) -> Result<(), ApplyStop>
     requires { Fits (plain graph.old) delta.now }
-    ensures ok { OnOk result (plain graph.new ≡ applied (plain graph.old) delta.now) }
-    ensures caps { graph.new.caps ≡ graph.old.caps }
+    ensures ok { OnOk result (Grows graph.old graph.new delta.now) }
     ensures err { OnErr result (graph.new ≡ graph.old) }
 
     // The caps are looked at before memory is taken.
-    ensures nodes { (result ≡ Err ApplyStop.TooManyNodes)
+    ensures too_many_nodes { (result ≡ Err ApplyStop.TooManyNodes)
         ↔ (cap_met graph.old.caps (plain graph.old) delta.now ≡ Some Cap.nodes) }
-    ensures edges { (result ≡ Err ApplyStop.TooManyEdges)
+    ensures too_many_edges { (result ≡ Err ApplyStop.TooManyEdges)
         ↔ (cap_met graph.old.caps (plain graph.old) delta.now ≡ Some Cap.edges) }
 {
     if delta.nodes.len() > graph.caps.nodes as usize - graph.nodes.len() {

@@ -1,7 +1,8 @@
-use Rattle.std.proofs.Common.{◌≡◌, ◌+◌, ◌<◌, ◌≤◌, ◌++◌, List, length, map, drop, ap, ◌∙◌, arith}
+use Rattle.std.proofs.Common.{◌≡◌, ◌+◌, ◌<◌, ◌≤◌, ◌++◌, ℕ, List, length, map, drop, ap, subst, ◌∙◌, arith}
 use Rattle.std.proofs.lemmas.List.{length-map, take_at}
 use Rattle.cpg_schema.specs.Deltas.{applied}
 use Rattle.graph_store.specs.declared.node_row.NodeRow.{NodeRow}
+use Rattle.graph_store.specs.Pool.{Adds}
 use Rattle.graph_store.specs.Stored.{StoredGraph, plain}
 use Rattle.graph_store.specs.Rows.{plain_node, renumbered}
 use Rattle.graph_store.specs.DeltaRows.{plain_delta}
@@ -69,8 +70,15 @@ returns-clause-ok c =
     (take_at c.set_all.new.nodes (drop (length c.set_all.new.nodes) c.reserve.new.self.items) c.reserve.new.self.len size)) in
     let edges : c.append_edges.new.edges.items ≡ g.edges.items ++ map (edge_of_row (length g.nodes.items) numbers) o.edges.items =
     rw (← c.deref-5.ensures.value, ← c.deref-6.ensures.value, ← first, ← c.in_ok-reserve-2.ensures.items) c.append_edges.ensures in
-    rw (nodes, set, edges)
-    (applied_kept g.names c.add_all.new.self o.names g.nodes.items g.edges.items g.caps o.nodes.items o.edges.items o.settings.items numbers
-    c.in_ok-numbers.ensures.adds c.in_ok-numbers.ensures.few c.in_ok-numbers.ensures.numbers c.graph.invariant c.delta.invariant ∙
-    (ap (λ (graph : StoredGraph). applied (plain graph) (plain_delta o.names o.nodes.items o.edges.items o.settings.items)) c.graph.view_is ∙
-    ap (applied (plain c.args.graph.now)) c.delta.view_is))
+    record {
+      is =
+          rw (nodes, set, edges)
+          (applied_kept g.names c.add_all.new.self o.names g.nodes.items g.edges.items g.caps o.nodes.items o.edges.items o.settings.items numbers
+          c.in_ok-numbers.ensures.adds c.in_ok-numbers.ensures.few c.in_ok-numbers.ensures.numbers c.graph.invariant c.delta.invariant ∙
+          (ap (λ (graph : StoredGraph). applied (plain graph) (plain_delta o.names o.nodes.items o.edges.items o.settings.items)) c.graph.view_is ∙
+          ap (applied (plain c.args.graph.now)) c.delta.view_is));
+      caps = ap (λ (graph : StoredGraph). graph.caps) c.graph.view_is;
+      names =
+          subst (λ (names : List (List ℕ)). Adds names c.add_all.new.self) (ap (λ (graph : StoredGraph). graph.names) c.graph.view_is)
+          c.in_ok-numbers.ensures.adds;
+    }
