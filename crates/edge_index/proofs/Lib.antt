@@ -9,3 +9,4 @@ pub mod Cuts
 pub mod WholeSide
 pub mod Ends
 pub mod LentEdges
+pub mod OneEdge

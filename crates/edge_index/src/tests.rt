@@ -1,8 +1,13 @@
 //! Examples of what an index lends.
 
+ghost use Rattle.std.specs.Prelude.{IfOk, IfSome};
+ghost use Rattle.cpg_schema.specs.Fitting.{Fits};
+ghost use Rattle.graph_store.specs.Stored.{plain};
+
 use crate::index_of;
 use cpg_schema::{Caps, EdgeKind, End, Label, allows};
 use graph_store::{Delta, Edge, Graph, apply};
+use std::alloc::AllocError;
 use std::hash::RandomState;
 use std::process::Abort;
 use std::test::Fail;
@@ -93,26 +98,31 @@ fn add_node(graph: &mut Graph, label: Label) -> Result<(), Fail> {
     Ok(())
 }
 
-fn add_edge(
-    graph: &mut Graph,
+/// The delta of one edge, where the schema allows it.
+fn edge_delta(
+    graph: &Graph,
     from: u32,
     kind: EdgeKind,
     to: u32,
     variable: &[u8],
-) -> Result<(), Fail> {
-    if from >= graph.len() || to >= graph.len() {
-        Err("an end is no node")?;
+) -> Result<Option<Delta>, AllocError>
+    ensures { IfOk result (λ made. IfSome made (Fits (plain graph.now))) }
+{
+    if from >= graph.len() {
+        return Ok(None);
+    }
+    if to >= graph.len() {
+        return Ok(None);
     }
     if !allows(kind, graph.node(from), graph.node(to)) {
-        Err("the schema allows no such edge")?;
+        return Ok(None);
     }
     let mut delta = Delta::new(graph);
     match kind {
         EdgeKind::ReachingDef => delta.edge(End::Old(from), kind, End::Old(to), variable)?,
         other => delta.edge(End::Old(from), other, End::Old(to), b"")?,
     }
-    apply(graph, &delta)?;
-    Ok(())
+    Ok(Some(delta))
 }
 
 fn graph_of_all(rt: &HostRuntime) -> Result<Graph, Fail> {
@@ -122,7 +132,8 @@ fn graph_of_all(rt: &HostRuntime) -> Result<Graph, Fail> {
         add_node(&mut graph, label)?;
     }
     for (from, kind, to, variable) in EDGES {
-        add_edge(&mut graph, from, kind, to, variable)?;
+        let delta = edge_delta(&graph, from, kind, to, variable)?;
+        apply(&mut graph, &delta.ok_or("the schema allows no such edge")?)?;
     }
     Ok(graph)
 }
@@ -131,9 +142,11 @@ fn graph_of_all(rt: &HostRuntime) -> Result<Graph, Fail> {
 fn assert_edges(rt: &impl Abort, graph: &Graph, edges: &[Edge], positions: &[usize]) {
     assert_eq!(rt; edges.len(), positions.len());
     for (edge, position) in edges.iter().zip(positions) {
-        let want = EDGES.get(*position).copied();
-        let name = graph.variable_name(edge.variable);
-        assert_eq!(rt; Some((edge.from, edge.kind, edge.to, name)), want);
+        let Some((from, kind, to, variable)) = EDGES.get(*position).copied() else {
+            return panic!(rt; "no edge {position}");
+        };
+        assert_eq!(rt; (edge.from, edge.kind, edge.to), (from, kind, to));
+        assert_eq!(rt; graph.variable_name(edge.variable), variable);
     }
 }
 
