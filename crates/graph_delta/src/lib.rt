@@ -3,6 +3,8 @@
 
 pub mod laws;
 mod pass;
+#[cfg(test)]
+mod tests;
 
 pub use cpg_schema::End;
 pub use graph_store::{ApplyStop, Delta, Value, apply};
