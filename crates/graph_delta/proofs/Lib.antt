@@ -1,0 +1,4 @@
+pub mod Sequencing
+pub mod Fitting
+pub mod Shaping
+pub mod NodesAlone
