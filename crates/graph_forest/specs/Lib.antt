@@ -1,0 +1,4 @@
+-- What contracts of this crate say, in the order of reading.
+pub mod Forest
+pub mod Planting
+pub mod Nodes
