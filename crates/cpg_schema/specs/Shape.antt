@@ -15,7 +15,7 @@ pub record IsAstEdgeAt (edges : List PlainEdge) (position parent child : ℕ) : 
 pub data IsAbove (edges : List PlainEdge) (ancestor : ℕ) : ℕ → Type 0 where
   child : (position node : ℕ) → IsAstEdgeAt edges position ancestor node →
       IsAbove edges ancestor node
-  below : (position parent node : ℕ) → IsAbove edges ancestor parent →
+  descendant : (position parent node : ℕ) → IsAbove edges ancestor parent →
       IsAstEdgeAt edges position parent node → IsAbove edges ancestor node
 
 -- Each node has at most one AST edge to it, and no node is above itself.

@@ -19,7 +19,7 @@ use Rattle.graph_store.specs.Stored.{StoredGraph, plain, plain_edge}
 use Rattle.graph_store.specs.Rows.{plain_node, renumbered, HasNames, IsVariable, AreGraphRows}
 use Rattle.cpg_schema.specs.Deltas.{IsNewEnd}
 use Rattle.graph_store.specs.DeltaRows.{plain_delta, plain_new_edge, plain_setting, plain_end, IsNewEdgeRow, AreDeltaRows}
-use Rattle.graph_store.specs.GrownRows.{end_row_number, edge_of_row, rows_with_settings}
+use Rattle.graph_store.specs.GrownRows.{HasSmallEnds, end_row_number, edge_of_row, rows_with_settings}
 use Rattle.graph_store.proofs.Pool.{adds_keep, length_adds}
 use Rattle.graph_store.proofs.Keeping.{keeps_nodes, keeps_edges, more_names}
 use Rattle.graph_store.proofs.Growing.{new_nodes, new_texts, old_nodes, old_texts, new_edges, new_variables, length-rows_with_settings}
@@ -123,7 +123,7 @@ module _ (a b more : List (List ℕ)) (nodes : List NodeRow) (edges : List Edge)
     number_small small (end_row.New n) old new = omega arith
 
     -- the numbers of all ends are small
-    pub ends_small : caps.nodes < 4294967296 → All (λ (x : NewEdgeRow). (end_row_number (length nodes) x.from < 4294967296) × (end_row_number (length nodes) x.to < 4294967296)) additions
+    pub ends_small : caps.nodes < 4294967296 → All (HasSmallEnds (length nodes)) additions
     ends_small small =
         let size = length-map nodes (plain_node a) in
         by additions delta.additions (subst (λ (n : ℕ). All (λ (edge : NewEdge). IsOldEnd n edge.from) (map (plain_new_edge more) additions)) size fits.old_from)
@@ -132,15 +132,15 @@ module _ (a b more : List (List ℕ)) (nodes : List NodeRow) (edges : List Edge)
         by : (xs : List NewEdgeRow) → All (IsNewEdgeRow (length others) (length more)) xs →
             All (λ (edge : NewEdge). IsOldEnd (length nodes) edge.from) (map (plain_new_edge more) xs) →
             All (λ (edge : NewEdge). IsOldEnd (length nodes) edge.to) (map (plain_new_edge more) xs) →
-            All (λ (x : NewEdgeRow). (end_row_number (length nodes) x.from < 4294967296) × (end_row_number (length nodes) x.to < 4294967296)) xs
+            All (HasSmallEnds (length nodes)) xs
         by [] all from to = λ k d h. absurd (omega arith)
         by (x ∷ xs) all from to =
             let one = All-head (IsNewEdgeRow (length others) (length more)) x xs all in
             let from_one = All-head (λ (edge : NewEdge). IsOldEnd (length nodes) edge.from) (plain_new_edge more x) (map (plain_new_edge more) xs) from in
             let to_one = All-head (λ (edge : NewEdge). IsOldEnd (length nodes) edge.to) (plain_new_edge more x) (map (plain_new_edge more) xs) to in
-            let both : (end_row_number (length nodes) x.from < 4294967296) × (end_row_number (length nodes) x.to < 4294967296) =
-            (number_small small x.from from_one one.from, number_small small x.to to_one one.to) in
-            All-cons (λ (x : NewEdgeRow). (end_row_number (length nodes) x.from < 4294967296) × (end_row_number (length nodes) x.to < 4294967296)) x xs both
+            let both : HasSmallEnds (length nodes) x =
+            record { from = number_small small x.from from_one one.from; to = number_small small x.to to_one one.to } in
+            All-cons (HasSmallEnds (length nodes)) x xs both
             (by xs (All-tail (IsNewEdgeRow (length others) (length more)) x xs all)
             (All-tail (λ (edge : NewEdge). IsOldEnd (length nodes) edge.from) (plain_new_edge more x) (map (plain_new_edge more) xs) from)
             (All-tail (λ (edge : NewEdge). IsOldEnd (length nodes) edge.to) (plain_new_edge more x) (map (plain_new_edge more) xs) to))

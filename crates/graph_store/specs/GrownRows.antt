@@ -1,5 +1,5 @@
 -- The rows that a delta's rows become in a graph, whose pool has other numbers for the names.
-use Rattle.std.specs.Prelude.{ℕ, ◌+◌, List, [], ◌∷◌, slice_index_or}
+use Rattle.std.specs.Prelude.{ℕ, ◌+◌, ◌<◌, ◌^◌, List, [], ◌∷◌, slice_index_or}
 use Rattle.cpg_schema.specs.declared.key.Key.{Key}
 use Rattle.cpg_schema.specs.Deltas.{changed_at}
 use Rattle.graph_store.specs.declared.names.TheConstants.{NO_NAME}
@@ -17,6 +17,11 @@ use Rattle.graph_store.specs.Rows.{row_with_text, row_with_number}
 abbrev pub end_row_number : ℕ → EndRow → ℕ
 end_row_number first (end_row.Old node) = node
 end_row_number first (end_row.New position) = first + position
+
+-- The numbers of its ends have 32 bits.
+pub record HasSmallEnds (first : ℕ) (row : NewEdgeRow) : Type 0 where
+  pub from : end_row_number first row.from < 2 ^ 32
+  pub to : end_row_number first row.to < 2 ^ 32
 
 -- The edge that is added.
 abbrev pub edge_of_row : ℕ → List ℕ → NewEdgeRow → Edge

@@ -1,13 +1,13 @@
 //! A delta is added to a graph.
 
-ghost use Rattle.std.specs.Prelude.{◌≡◌, ◌↔◌, ◌+◌, ◌<◌, ◌≤◌, ◌++◌, Some, length, map, vec_capacity};
-ghost use Rattle.std.specs.Prelude.{OnOk, OnErr};
+ghost use Rattle.std.specs.Prelude.{◌≡◌, ◌↔◌, ◌+◌, ◌<◌, ◌≤◌, ◌^◌, ◌++◌, Some, length, map};
+ghost use Rattle.std.specs.Prelude.{vec_capacity, OnOk, OnErr};
 ghost use Rattle.std.specs.List.{All};
 ghost use Rattle.cpg_schema.specs.Fitting.{Fits};
 ghost use Rattle.graph_store.specs.Stored.{Grows, plain};
 ghost use Rattle.graph_store.specs.Rows.{renumbered};
-ghost use Rattle.graph_store.specs.GrownRows.{rows_with_settings, edge_of_row, end_row_number};
-ghost use Rattle.graph_store.specs.GrownRows.{row_with_value};
+ghost use Rattle.graph_store.specs.GrownRows.{HasSmallEnds, edge_of_row, end_row_number};
+ghost use Rattle.graph_store.specs.GrownRows.{row_with_value, rows_with_settings};
 ghost use Rattle.cpg_schema.specs.Sequence.{Cap, cap_met};
 
 use crate::delta::Delta;
@@ -101,39 +101,37 @@ fn append_nodes(nodes: &mut Vec<NodeRow>, more: &[NodeRow], numbers: &[u32])
 /// Appends edges, for which there is room. New nodes are numbered from `first` on.
 fn append_edges(edges: &mut Vec<Edge>, more: &[NewEdgeRow], first: u32, numbers: &[u32])
     requires room { length edges.old.items + length more.now ≤ vec_capacity edges.old }
-    requires few { All (λ addition. (end_row_number first addition.from < 4294967296)
-        × (end_row_number first addition.to < 4294967296)) more.now }
+    requires small { All (HasSmallEnds first) more.now }
     ensures { edges.new.items ≡ edges.old.items ++ map (edge_of_row first numbers.now) more.now }
 {
-    for addition in more {
-        let _ = edges.push(edge_of(addition, first, numbers));
+    for row in more {
+        let _ = edges.push(edge_of(row, first, numbers));
     }
 }
 
 /// The edge that is added.
-fn edge_of(addition: &NewEdgeRow, first: u32, numbers: &[u32]) -> Edge
-    requires from { end_row_number first addition.now.from < 4294967296 }
-    requires to { end_row_number first addition.now.to < 4294967296 }
-    ensures { result ≡ edge_of_row first numbers.now addition.now }
+fn edge_of(row: &NewEdgeRow, first: u32, numbers: &[u32]) -> Edge
+    requires { HasSmallEnds first row.now }
+    ensures { result ≡ edge_of_row first numbers.now row.now }
 {
-    let variable = match numbers.get(addition.variable as usize) {
+    let variable = match numbers.get(row.variable as usize) {
         Some(variable) => *variable,
         None => 0,
     };
     Edge {
-        from: node_number(addition.from, first),
-        kind: addition.kind,
-        to: node_number(addition.to, first),
+        from: node_number(row.from, first),
+        kind: row.kind,
+        to: node_number(row.to, first),
         variable,
     }
 }
 
 /// The number of a node, where new nodes are numbered from `first` on.
-fn node_number(position: EndRow, first: u32) -> u32
-    requires { end_row_number first position < 4294967296 }
-    ensures { result ≡ end_row_number first position }
+fn node_number(end: EndRow, first: u32) -> u32
+    requires { end_row_number first end < 2 ^ 32 }
+    ensures { result ≡ end_row_number first end }
 {
-    match position {
+    match end {
         EndRow::Old(node) => node,
         EndRow::New(position) => first + position,
     }

@@ -16,8 +16,8 @@ use std::alloc::{AllocError, Global};
 use std::hash::RandomState;
 use std::marker::Model;
 
-/// A code property graph. Contracts see its nodes with their properties, its edges, its pooled names,
-/// and its caps, which it never passes.
+/// A code property graph. Contracts see its nodes with their properties, its edges, its pooled
+/// names, and its caps, which it never passes.
 #[derive(Drop)]
 pub struct Graph {
     pub(crate) nodes: Vec<NodeRow>,

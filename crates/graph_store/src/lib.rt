@@ -9,6 +9,8 @@ mod edge;
 mod graph;
 mod names;
 mod node_row;
+#[cfg(test)]
+mod tests;
 
 
 

@@ -20,8 +20,8 @@ set_all-requires c =
     rw (c.deref.ensures.value, c.deref_mut.ensures.value, c.in_ok-reserve.ensures.items)
     (set_within o.names o.settings.items (map (plain_node g.names) g.nodes.items) (length g.nodes.items) (length-map g.nodes.items (plain_node g.names)) fits.settings)
 
-pub append_edges-requires-clause-few : goal.append_edges-requires-clause-few
-append_edges-requires-clause-few c =
+pub append_edges-requires-clause-small : goal.append_edges-requires-clause-small
+append_edges-requires-clause-small c =
     let g = c.graph.inside in
     let o = c.delta.inside in
     let fits = rw (← c.graph.view_is, ← c.delta.view_is) at c.requires in
