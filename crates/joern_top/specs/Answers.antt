@@ -1,6 +1,8 @@
 -- What the program has decided to answer, before it is written.
 use Rattle.std.specs.Prelude.{ℕ, ◌≡◌, ◌⊎◌, List, []}
 use Rattle.joern_io.specs.Sinks.{SinkState, Takes, TakesPrefix}
+use Rattle.graph_store.specs.Stored.{plain}
+use Rattle.edge_index.specs.Indexed.{IsIndexOf}
 use Rattle.joern_top.specs.declared.status.Status.{Status}
 use Rattle.joern_top.specs.declared.status.Status.TheVariants as status
 use Rattle.joern_top.specs.declared.refusal.Refusal.{Refusal}
@@ -8,8 +10,7 @@ use Rattle.joern_top.specs.declared.answer.Answer.{Answer}
 use Rattle.joern_top.specs.declared.answer.Answer.TheVariants as answer
 use Rattle.joern_top.specs.Messages.{refused_line}
 use Rattle.joern_top.specs.Run.{Outcome, outcome, usage_outcome, read_fault_outcome}
-use Rattle.joern_top.specs.Run.{large_file_outcome, graph_outcome}
-use Rattle.joern_top.specs.Reading.{read_graph}
+use Rattle.joern_top.specs.Run.{limit_outcome, graph_outcome}
 
 -- What a refusal of the first source, of this name, gives.
 abbrev pub refusal_outcome : List ℕ → Refusal → Outcome
@@ -21,9 +22,9 @@ refusal_outcome name refusal =
 abbrev pub outcome_of : Answer → Outcome
 outcome_of answer.Usage = usage_outcome
 outcome_of (answer.ReadFault name) = read_fault_outcome name.now
-outcome_of answer.TooLarge = large_file_outcome
+outcome_of (answer.Limit quantity at) = limit_outcome quantity at
 outcome_of (answer.Refused name refusal) = refusal_outcome name.now refusal
-outcome_of (answer.Dump read) = graph_outcome (read_graph read)
+outcome_of (answer.Dump built) = graph_outcome (plain built.graph)
 outcome_of answer.NoMemory = outcome status.NoMemory []
 
 -- The answer is neither that a file could not be read nor that memory is wanting.
@@ -31,6 +32,11 @@ abbrev pub IsDecided : Answer → Type 0
 IsDecided (answer.ReadFault _) = ⊥
 IsDecided answer.NoMemory = ⊥
 IsDecided _ = Unit {0}
+
+-- The index of a graph that is answered is its own.
+abbrev pub IsIndexed : Answer → Type 0
+IsIndexed (answer.Dump built) = IsIndexOf built.graph built.index
+IsIndexed _ = Unit {0}
 
 -- P of the name of the file that could not be read, if the answer says so.
 abbrev pub IfReadFault : Answer → (List ℕ → Type 0) → Type 0

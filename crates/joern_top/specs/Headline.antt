@@ -2,7 +2,7 @@
 -- give for its words and the held files alone. The rules' status is said where the files tell what
 -- they hold, and bytes where the sink tells what it took.
 use Rattle.std.specs.Prelude.{ℕ, ◌≡◌, ◌≤◌, ◌⊎◌, List, String, map, string_bytes, take, length, Some}
-use Rattle.std.specs.Prelude.{IfSome, IsSome, All, Contains, slice_get}
+use Rattle.std.specs.Prelude.{IfSome, IsSome, IsOk, All, Contains, slice_get}
 use Rattle.joern_io.specs.Faults.{Rose}
 use Rattle.joern_io.specs.Held.{Held, file_of}
 use Rattle.joern_io.specs.Files.{FilesState, RoseOrLacks}
@@ -12,7 +12,8 @@ use Rattle.joern_top.specs.declared.status.Status.{Status}
 use Rattle.joern_top.specs.declared.status.Status.TheVariants as status
 use Rattle.joern_top.specs.Status.{IsAnswer}
 use Rattle.joern_top.specs.Words.{command, files_of}
-use Rattle.joern_top.specs.Source.{IsAccepted}
+use Rattle.joern_top.specs.Source.{Parts, IsReadAs, IsAccepted, forest_of}
+use Rattle.joern_top.specs.Graph.{built_alone}
 use Rattle.joern_top.specs.Messages.{read_fault_line}
 use Rattle.joern_top.specs.Run.{Outcome, IsOutcome}
 
@@ -76,13 +77,16 @@ abbrev pub IsReadable : Held → List ℕ → Type 0
 IsReadable held name =
     (bytes : List ℕ) × (file_of held name ≡ Some bytes) × (length bytes ≤ MAX_FILE_BYTES)
 
--- The words give a command, each of its files is held and within the limit, and each source is
--- accepted.
+-- The words give a command, each of its files is held and within the limit, each source is
+-- accepted, and the graph passes no cap.
 pub record CanAnswer (words : List (List ℕ)) (held : Held) : Type 0 where
   pub commanded : IsSome (command words)
   pub readable : All (IsReadable held) (files_of (command words))
   pub accepted : (name bytes : List ℕ) → Contains (files_of (command words)) name →
       file_of held name ≡ Some bytes → IsAccepted bytes
+  pub within_caps : (name bytes : List ℕ) (parts : Parts) →
+      Contains (files_of (command words)) name → file_of held name ≡ Some bytes →
+      IsReadAs name bytes parts → IsOk (built_alone (forest_of name bytes parts))
 
 -- What can be answered is: where no count of faults rose the status is Ok and exactly the rules'
 -- bytes were written, or memory is wanting and nothing was written.

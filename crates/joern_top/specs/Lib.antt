@@ -2,6 +2,7 @@ pub mod Status
 pub mod Words
 pub mod Commands
 pub mod Source
+pub mod Graph
 pub mod Refusals
 pub mod Messages
 pub mod Run

@@ -1,47 +1,32 @@
--- What is held of a source that was read, and how one is refused.
-use Rattle.std.specs.Prelude.{ℕ, ◌≡◌, List, map}
+-- What is held of a source that was read and of its graph, and how a source is refused.
+use Rattle.std.specs.Prelude.{ℕ, ◌≡◌, List, Some, Ok}
 use Rattle.c_lexer.specs.Lines.{line_at, column_at}
-use Rattle.line_marks.specs.Kept.{items_at}
-use Rattle.cpg_schema.specs.Graph.{PlainGraph, plain_graph}
-use Rattle.cpg_schema.specs.Lines.{graph_lines}
-use Rattle.ast_layer.specs.declared.layer.SyntaxLayer.{SyntaxLayer}
-use Rattle.ast_layer.specs.Layer.{layer_nodes, layer_edges}
-use Rattle.ast_layer.specs.Source.{File, file, presumed_of}
-use Rattle.joern_top.specs.declared.read.SourceTokens.{SourceTokens}
-use Rattle.joern_top.specs.declared.read.ReadSource.{ReadSource}
+use Rattle.graph_store.specs.Stored.{plain}
+use Rattle.edge_index.specs.Indexed.{IsIndexOf}
+use Rattle.graph_forest.specs.Forest.{Forest}
+use Rattle.ast_layer.specs.declared.source.Source.{Source}
+use Rattle.ast_layer.specs.Parts.{source_forest}
+use Rattle.joern_top.specs.declared.graph.BuiltGraph.{BuiltGraph}
 use Rattle.joern_top.specs.declared.refusal.Refusal.{Refusal}
 use Rattle.joern_top.specs.declared.source.SourceStop.{SourceStop}
 use Rattle.joern_top.specs.declared.source.SourceStop.TheVariants.{Refused, Memory}
-use Rattle.joern_top.specs.Source.{Parts, IsReadAs, graph_of}
+use Rattle.joern_top.specs.Source.{Parts, IsReadAs, forest_of}
+use Rattle.joern_top.specs.Graph.{built_alone}
 use Rattle.joern_top.specs.Refusals.{IsRefusedAt}
 
 -- ---- A source that was read
 
--- The file of the source of this name with these bytes, of whose tokens this is held: its kept
--- tokens, and their places.
-abbrev pub held_file : List ℕ → List ℕ → SourceTokens → File
-held_file name bytes held =
-    let kept = held.kept.items in
-    file name bytes (items_at held.tokens.items kept)
-    (map (presumed_of held.files) (items_at held.places kept))
-
--- The file of a source that was read.
-abbrev pub read_file : ReadSource → File
-read_file read = held_file read.name.now read.bytes.items read.tokens
-
--- The graph of a kept syntax layer, with the texts of its file.
-abbrev pub layer_graph : File → SyntaxLayer → PlainGraph
-layer_graph file layer = plain_graph (layer_nodes file layer) (layer_edges layer)
-
--- The graph of a source that was read.
-abbrev pub read_graph : ReadSource → PlainGraph
-read_graph read = layer_graph (read_file read) read.layer
-
--- It is the source of this name with these bytes, and its lines are those of the source's graph.
-pub record IsReadSource (name bytes : List ℕ) (read : ReadSource) : Type 0 where
+-- What is held is the source of this name with these bytes: its forest is that of the parts that it
+-- is read as.
+pub record IsReadSource (name bytes : List ℕ) (source : Source) : Type 0 where
   pub parts : Parts
   pub is : IsReadAs name bytes parts
-  pub lines : graph_lines (read_graph read) ≡ graph_lines (graph_of name bytes parts)
+  pub forest : source_forest (Some source) ≡ forest_of name bytes parts
+
+-- It is the graph of a source with this forest, with its index.
+pub record IsBuiltFrom (forest : Forest) (built : BuiltGraph) : Type 0 where
+  pub is : built_alone forest ≡ Ok (plain built.graph)
+  pub indexed : IsIndexOf built.graph built.index
 
 -- ---- A source that is refused
 

@@ -1,17 +1,21 @@
 -- The run (ours): what the words and the held files give, as a status and the bytes that are
 -- written. The cases come in the order of refusals, and the first that holds decides.
-use Rattle.std.specs.Prelude.{ℕ, ◌≡◌, ◌<◌, ◌≤◌, ◌⊎◌, List, Option, Some, None, length}
+use Rattle.std.specs.Prelude.{ℕ, ◌≡◌, ◌<◌, ◌≤◌, ◌⊎◌, List, Option, Some, None, Result, Ok, Err}
+use Rattle.std.specs.Prelude.{length}
 use Rattle.joern_io.specs.Held.{Held, file_of}
 use Rattle.c_lexer.specs.declared.source_text.TheConstants.{MAX_FILE_BYTES}
 use Rattle.c_lexer.specs.Lines.{line_at, column_at}
 use Rattle.cpg_schema.specs.Graph.{PlainGraph}
 use Rattle.cpg_schema.specs.Lines.{graph_lines}
+use Rattle.cpg_schema.specs.Sequence.{Cap}
 use Rattle.joern_top.specs.declared.status.Status.{Status}
 use Rattle.joern_top.specs.declared.status.Status.TheVariants as status
 use Rattle.joern_top.specs.declared.status.Reason.{Reason}
+use Rattle.joern_top.specs.declared.status.What.{What}
 use Rattle.joern_top.specs.declared.status.What.TheVariants as what
 use Rattle.joern_top.specs.Words.{Command, Dump, command}
-use Rattle.joern_top.specs.Source.{Parts, IsReadAs, graph_of}
+use Rattle.joern_top.specs.Source.{Parts, IsReadAs, forest_of}
+use Rattle.joern_top.specs.Graph.{built_alone}
 use Rattle.joern_top.specs.Refusals.{IsRefusedAt}
 use Rattle.joern_top.specs.Messages.{usage_line, read_fault_line, refused_line, limit_line}
 
@@ -32,9 +36,13 @@ usage_outcome = outcome status.Usage usage_line
 abbrev pub read_fault_outcome : List ℕ → Outcome
 read_fault_outcome name = outcome (status.ReadFault 0) (read_fault_line name)
 
+-- There is too much of something, at this number.
+abbrev pub limit_outcome : What → ℕ → Outcome
+limit_outcome quantity at = outcome (status.Limit quantity at) (limit_line quantity at)
+
 -- The first file has too many bytes.
 abbrev pub large_file_outcome : Outcome
-large_file_outcome = outcome (status.Limit what.FileBytes 0) (limit_line what.FileBytes 0)
+large_file_outcome = limit_outcome what.FileBytes 0
 
 -- The first source, of this name, is refused at the byte with this offset. Its line and its column
 -- are those of the text as it stands.
@@ -47,13 +55,24 @@ refused_outcome name bytes at why =
 abbrev pub graph_outcome : PlainGraph → Outcome
 graph_outcome graph = outcome status.Ok (graph_lines graph)
 
--- The outcome for a source of this name with these bytes: it is refused, or it is read, and the
--- lines are those of its graph.
+-- What there is too much of where a graph would pass a cap.
+abbrev pub capped : Cap → What
+capped Cap.nodes = what.Nodes
+capped Cap.edges = what.Edges
+
+-- The graph that was built is printed, or the first pass would have passed a cap. Passes are
+-- numbered from 1.
+abbrev pub built_outcome : Result PlainGraph Cap → Outcome
+built_outcome (Ok graph) = graph_outcome graph
+built_outcome (Err cap) = limit_outcome (capped cap) 1
+
+-- The outcome for a source of this name with these bytes: it is refused, or it is read, and its
+-- graph is built.
 pub data IsSourceOutcome (name bytes : List ℕ) : Outcome → Type 0 where
   refused : (at : ℕ) (why : Reason) → IsRefusedAt bytes at why →
       IsSourceOutcome name bytes (refused_outcome name bytes at why)
   read : (parts : Parts) → IsReadAs name bytes parts →
-      IsSourceOutcome name bytes (graph_outcome (graph_of name bytes parts))
+      IsSourceOutcome name bytes (built_outcome (built_alone (forest_of name bytes parts)))
 
 -- The outcome for the file of this name, which has these bytes if it is held.
 abbrev pub IsFileOutcome : List ℕ → Option (List ℕ) → Outcome → Type 0

@@ -8,9 +8,9 @@ use Rattle.line_marks.specs.Kept.{AreKept, items_at}
 use Rattle.line_marks.specs.Presumed.{Presumed, Said, Says, first_presumption, presumed_places}
 use Rattle.c_tree.specs.declared.tree.Unit.{Unit}
 use Rattle.first_grammar.specs.FirstUnit.{IsFirstUnit}
-use Rattle.cpg_schema.specs.Graph.{PlainGraph}
+use Rattle.graph_forest.specs.Forest.{Forest}
 use Rattle.ast_layer.specs.Source.{file}
-use Rattle.ast_layer.specs.SyntaxLayer.{syntax_layer}
+use Rattle.ast_layer.specs.Forests.{file_forest}
 
 -- The text has these tokens (C11 6.4), and those at the positions are kept for the parser.
 pub record IsStrippedTo (bytes : List ℕ) (tokens : List Token) (kept : List ℕ) : Type 0 where
@@ -39,13 +39,13 @@ pub record IsReadAs (name bytes : List ℕ) (parts : Parts) : Type 0 where
   pub presumed : ArePresumed name bytes parts.tokens parts.places
   pub parsed : IsFirstUnit bytes (items_at parts.tokens parts.kept) parts.unit
 
--- The graph of the syntax layer of such a source: that of its tree, over its kept tokens and their
+-- The forest of the syntax layer of such a source: that of its tree, over its kept tokens and their
 -- places.
-abbrev pub graph_of : List ℕ → List ℕ → Parts → PlainGraph
-graph_of name bytes parts =
+abbrev pub forest_of : List ℕ → List ℕ → Parts → Forest
+forest_of name bytes parts =
     let tokens = items_at parts.tokens parts.kept in
     let places = items_at parts.places parts.kept in
-    syntax_layer (file name bytes tokens places) parts.unit
+    file_forest (file name bytes tokens places) parts.unit
 
 -- The text is that of a file with a tree.
 pub record IsAccepted (bytes : List ℕ) : Type 0 where

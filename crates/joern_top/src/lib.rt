@@ -3,8 +3,9 @@
 #![tactic(auto)]
 
 mod answer;
+mod graph;
+mod hashes;
 pub mod laws;
-mod read;
 mod refusal;
 mod source;
 mod status;

@@ -4,25 +4,20 @@ ghost use Rattle.std.specs.Prelude.{◌≡◌, ◌≤◌, length, vec_len, IfOk,
 ghost use Rattle.c_lexer.specs.Reading.{AreTokensOf};
 ghost use Rattle.line_marks.specs.Kept.{AreKept, items_at};
 ghost use Rattle.first_grammar.specs.FirstUnit.{IsFirstUnit};
-ghost use Rattle.cpg_schema.specs.Lines.{graph_lines};
-ghost use Rattle.cpg_schema.specs.Order.{in_order};
-ghost use Rattle.ast_layer.specs.Layer.{layer_edges};
-ghost use Rattle.ast_layer.specs.SyntaxLayer.{syntax_layer as graph_of};
 ghost use Rattle.joern_top.specs.Source.{IsStrippedTo};
-ghost use Rattle.joern_top.specs.Reading.{IsReadSource, IsStopOf, held_file, layer_graph};
+ghost use Rattle.joern_top.specs.Reading.{IsReadSource, IsStopOf};
 ghost use Rattle.joern_top.specs.Refusals.{IsRefusedAt};
 
-use crate::read::{ReadSource, SourceTokens};
 use crate::refusal::Refusal;
 use crate::status::Reason;
-use ast_layer::laws::law_few_nodes;
-use ast_layer::{SyntaxLayer, syntax_layer};
+use ast_layer::Source;
 use c_lexer::laws::law_within_the_text;
 use c_lexer::{LexStop, MAX_FILE_BYTES, SourceText, Token, lex};
 use c_tree::Unit;
 use first_grammar::{GrammarStop, read_unit};
+use joern_io::{Bytes, List};
 use line_marks::laws::law_kept_positions;
-use line_marks::{Places, StripStop, places_of, strip};
+use line_marks::{StripStop, places_of, strip};
 use std::alloc::{AllocError, Global};
 
 /// Why a source is not read.
@@ -45,12 +40,12 @@ impl From<AllocError> for SourceStop {
     }
 }
 
-/// Reads a source, and makes its syntax layer. The first stage that refuses it decides.
-pub(crate) fn read_source<'a>(
+/// Reads a source. The first stage that refuses it decides.
+pub(crate) fn read_source(
     alloc: Global,
-    name: &'a str,
+    name: &str,
     bytes: Vec<u8>,
-) -> Result<ReadSource<'a>, SourceStop>
+) -> Result<Source, SourceStop>
     requires within { vec_len bytes ≤ MAX_FILE_BYTES }
     ensures ok { IfOk result (IsReadSource name.now bytes.items) }
     ensures refused { IfErr result (IsStopOf bytes.items) }
@@ -58,21 +53,17 @@ pub(crate) fn read_source<'a>(
     let text = SourceText { bytes: &bytes };
     let tokens = read_tokens(alloc, text)?;
     let kept = keep_tokens(alloc, text, &tokens)?;
-    let Places { places, files } = places_of(alloc, text, &tokens, name)?;
+    let places = places_of(alloc, text, &tokens, name)?;
     let unit = read_tree(alloc, text, &tokens, &kept)?;
+    let name = Vec::from_slice(alloc, name.as_bytes())?;
     law_kept_positions();
-    let tokens = SourceTokens {
-        tokens,
-        kept,
+    Ok(Source {
+        name: Bytes::of(name),
+        bytes: Bytes::of(bytes),
+        tokens: List::of(tokens),
+        kept: List::of(kept),
         places,
-        files,
-    };
-    let layer = make_layer(alloc, name, text, &tokens, &unit)?;
-    Ok(ReadSource {
-        name,
-        bytes,
-        tokens,
-        layer,
+        unit,
     })
 }
 
@@ -128,28 +119,6 @@ fn read_tree(
         Err(GrammarStop::Unbuilt) => Err(refuse(text, 0, Reason::Unbuilt)),
         Err(GrammarStop::Memory) => Err(SourceStop::Memory),
     }
-}
-
-/// The syntax layer of a source with these tokens and this tree.
-fn make_layer(
-    alloc: Global,
-    name: &str,
-    text: SourceText<'_>,
-    held: &SourceTokens,
-    unit: &Unit,
-) -> Result<SyntaxLayer, AllocError>
-    requires stripped { IsStrippedTo text.bytes.now held.now.tokens.items held.now.kept.items }
-    requires unit { IsFirstUnit text.bytes.now
-        (items_at held.now.tokens.items held.now.kept.items) unit.now }
-    ensures lines { IfOk result (λ layer.
-        let file = held_file name.now text.entry.bytes.now held.now in
-        graph_lines (layer_graph file layer) ≡ graph_lines (graph_of file unit.now)) }
-    ensures in_order { IfOk result (λ layer. in_order (layer_edges layer) ≡ layer_edges layer) }
-{
-    law_few_nodes();
-    law_within_the_text();
-    law_kept_positions();
-    syntax_layer(alloc, held.source(name, text), unit)
 }
 
 /// The stop at a byte at which the rules refuse the text.

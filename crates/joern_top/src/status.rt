@@ -2,7 +2,7 @@
 
 ghost use Rattle.std.specs.Prelude.{◌≡◌};
 ghost use Rattle.joern_top.specs.Status.{status_code};
-ghost use Rattle.joern_top.specs.Messages.{reason_text};
+ghost use Rattle.joern_top.specs.Messages.{reason_text, what_text};
 
 /// How a run ended.
 #[derive(Clone, Copy, Debug, PartialEq, Eq)]
@@ -17,7 +17,7 @@ pub enum Status {
     ReadFault { name: u32 },
     /// Not all was written.
     WriteFault,
-    /// A limit was passed. `at` counts the files in the order of reading, from 0.
+    /// A limit was passed. `at` says where, as `What` does.
     Limit { what: What, at: u32 },
     /// Memory is wanting; nothing was written.
     NoMemory,
@@ -39,8 +39,12 @@ pub enum Reason {
 /// What there is too much of.
 #[derive(Clone, Copy, Debug, PartialEq, Eq)]
 pub enum What {
-    /// The bytes of one file.
+    /// The bytes of one file. `at` counts the files in the order of reading, from 0.
     FileBytes,
+    /// The nodes of the graph. `at` is the number of the pass that would add them, from 1.
+    Nodes,
+    /// The edges of the graph, likewise.
+    Edges,
 }
 
 impl Status {
@@ -70,6 +74,19 @@ impl Reason {
             Reason::Unclosed => "unclosed",
             Reason::Attribute => "attribute",
             Reason::Unbuilt => "unbuilt",
+        }
+    }
+}
+
+impl What {
+    /// What there is too much of, as it is printed.
+    pub(crate) fn text(self) -> &'static str
+        ensures { result.now ≡ what_text self }
+    {
+        match self {
+            What::FileBytes => "file-bytes",
+            What::Nodes => "nodes",
+            What::Edges => "edges",
         }
     }
 }

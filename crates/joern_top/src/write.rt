@@ -1,38 +1,41 @@
 //! Writing what was decided.
 
-ghost use Rattle.joern_top.specs.Reading.{read_graph};
-ghost use Rattle.joern_top.specs.Answers.{outcome_of, refusal_outcome, Writes};
+ghost use Rattle.graph_store.specs.Stored.{plain};
+ghost use Rattle.edge_index.specs.Indexed.{IsIndexOf};
+ghost use Rattle.joern_top.specs.Answers.{outcome_of, refusal_outcome, IsIndexed, Writes};
 ghost use Rattle.joern_top.specs.Run.{outcome, read_fault_outcome};
-ghost use Rattle.joern_top.specs.Run.{large_file_outcome, graph_outcome};
+ghost use Rattle.joern_top.specs.Run.{limit_outcome, graph_outcome};
 ghost use Rattle.graph_text.specs.LineParts.{line_text};
 
 use crate::answer::Answer;
-use crate::read::ReadSource;
+use crate::graph::BuiltGraph;
 use crate::refusal::Refusal;
 use crate::status::{Status, What};
-use graph_text::{LinePart, print_graph, print_line};
+use graph_text::{LinePart, dump, print_line};
 use joern_io::{Failed, Sink};
 
 /// Writes an answer, and says how the run ended.
 pub(crate) fn write_answer<S: Sink>(answer: &Answer<'_>, out: &mut S) -> Status
+    requires indexed { IsIndexed answer.now }
     ensures { Writes (outcome_of answer.now) (S.state out.old) (S.state out.new) result }
 {
     match answer {
         Answer::Usage => refuse(Status::Usage, &[LinePart::Verbatim("usage")], out),
         Answer::ReadFault { name } => refuse_file(name, out),
-        Answer::TooLarge => refuse_large_file(out),
+        Answer::Limit { what, at } => refuse_amount(*what, *at, out),
         Answer::Refused { name, refusal } => refuse_source(name, refusal, out),
-        Answer::Dump { read } => write_dump(read, out),
+        Answer::Dump { built } => write_dump(built, out),
         Answer::NoMemory => Status::NoMemory,
     }
 }
 
-/// Prints the syntax layer of a source.
-fn write_dump<S: Sink>(read: &ReadSource<'_>, out: &mut S) -> Status
-    ensures { Writes (graph_outcome (read_graph read.now))
+/// Prints a graph.
+fn write_dump<S: Sink>(built: &BuiltGraph, out: &mut S) -> Status
+    requires indexed { IsIndexOf built.now.graph built.now.index }
+    ensures { Writes (graph_outcome (plain built.now.graph))
         (S.state out.old) (S.state out.new) result }
 {
-    match print_graph(&read.view(), out) {
+    match dump(&built.graph, &built.index, out) {
         Ok(()) => Status::Ok,
         Err(Failed) => Status::WriteFault,
     }
@@ -53,17 +56,18 @@ fn refuse_file<S: Sink>(name: &str, out: &mut S) -> Status
     )
 }
 
-/// Prints that the file has too many bytes.
-fn refuse_large_file<S: Sink>(out: &mut S) -> Status
-    ensures { Writes large_file_outcome (S.state out.old) (S.state out.new) result }
+/// Prints that there is too much of something, and at which number.
+fn refuse_amount<S: Sink>(what: What, at: u32, out: &mut S) -> Status
+    ensures { Writes (limit_outcome what at) (S.state out.old) (S.state out.new) result }
 {
-    let status = Status::Limit {
-        what: What::FileBytes,
-        at: 0,
-    };
     refuse(
-        status,
-        &[LinePart::Verbatim("limit file-bytes "), LinePart::Number(0)],
+        Status::Limit { what, at },
+        &[
+            LinePart::Verbatim("limit "),
+            LinePart::Verbatim(what.text()),
+            LinePart::Verbatim(" "),
+            LinePart::Number(at),
+        ],
         out,
     )
 }

@@ -1,0 +1,60 @@
+//! The graph of a source, as the passes build it.
+
+ghost use Rattle.std.specs.Prelude.{◌≡◌, ◌∷◌, [], Some, Err, IfOk};
+ghost use Rattle.cpg_schema.specs.Sequence.{Cap};
+ghost use Rattle.ast_layer.specs.Parts.{source_forest};
+ghost use Rattle.joern_top.specs.Graph.{built_alone};
+ghost use Rattle.joern_top.specs.Reading.{IsBuiltFrom};
+
+use crate::hashes::name_hashes;
+use ast_layer::{AstPass, Source};
+use cpg_schema::Caps;
+use edge_index::{Index, index_of};
+use graph_store::{ApplyStop, Graph};
+use pass_runner::run_pass_one;
+use std::alloc::{AllocError, Global};
+
+/// How many nodes the graph has at most.
+const MAX_NODES: u32 = 16_777_216;
+
+/// How many edges the graph has at most.
+const MAX_EDGES: u32 = 67_108_864;
+
+/// The number of the pass that adds the syntax layer.
+pub(crate) const FIRST_PASS: u32 = 1;
+
+/// A graph with its index.
+#[derive(Drop)]
+pub(crate) struct BuiltGraph {
+    pub(crate) graph: Graph,
+    pub(crate) index: Index,
+}
+
+/// Builds the graph of a source, and its index.
+pub(crate) fn build_graph(alloc: Global, source: Source) -> Result<BuiltGraph, ApplyStop>
+    ensures ok { IfOk result (IsBuiltFrom (source_forest (Some source))) }
+    ensures too_many_nodes { result ≡ Err ApplyStop.TooManyNodes →
+        built_alone (source_forest (Some source)) ≡ Err Cap.nodes }
+    ensures too_many_edges { result ≡ Err ApplyStop.TooManyEdges →
+        built_alone (source_forest (Some source)) ≡ Err Cap.edges }
+{
+    let caps = Caps {
+        nodes: MAX_NODES,
+        edges: MAX_EDGES,
+    };
+    let hashes = name_hashes(source.bytes.items())?;
+    let empty = Graph::new(alloc, caps, hashes)?;
+    let pass = first_pass(alloc, source)?;
+    let graph = run_pass_one(alloc, &pass, empty)?;
+    let index = index_of(alloc, &graph)?;
+    Ok(BuiltGraph { graph, index })
+}
+
+/// The pass that adds the syntax layer of a source.
+fn first_pass(alloc: Global, source: Source) -> Result<AstPass, AllocError>
+    ensures { IfOk result (λ pass. pass ≡ source ∷ []) }
+{
+    let mut sources = Vec::new(alloc);
+    sources.push(source)?;
+    Ok(AstPass::new(sources))
+}
