@@ -1,5 +1,11 @@
 pub mod Names
+pub mod Schema
 pub mod Graph
+pub mod Properties
+pub mod Deltas
+pub mod Fitting
+pub mod Sequence
+pub mod Shape
 pub mod Order
 pub mod Values
 pub mod Lines

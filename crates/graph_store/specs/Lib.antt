@@ -1,0 +1,6 @@
+pub mod Stored
+pub mod Values
+pub mod Pool
+pub mod Rows
+pub mod DeltaRows
+pub mod GrownRows

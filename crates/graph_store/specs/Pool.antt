@@ -1,0 +1,19 @@
+-- Pooled names: each stands once in a list, and its number is its position.
+use Rattle.std.specs.Prelude.{ℕ, ◌≡◌, ◌<◌, List, ◌++◌, length, map, slice_get, slice_index}
+use Rattle.std.specs.declared.vec.Vec.{Vec}
+use Rattle.std.specs.HashSet.{HashSet}
+
+-- The names in a set of vectors of bytes.
+abbrev pub names_of : {A S : Type 0} → HashSet (Vec ℕ A) S → List (List ℕ)
+names_of set = map (λ name. name.items) set.keys
+
+-- Names were added at the end.
+pub record Adds (old new : List (List ℕ)) : Type 0 where
+  pub more : List (List ℕ)
+  pub is : new ≡ old ++ more
+
+-- The names of one list have these numbers in another.
+pub record Numbers (names pool : List (List ℕ)) (numbers : List ℕ) : Type 0 where
+  pub one_each : length numbers ≡ length names
+  pub stored : (k : ℕ) → k < length names →
+      slice_get pool (slice_index numbers k) ≡ slice_get names k

@@ -1,0 +1,20 @@
+//! The code property graph as it is kept, in rows whose texts are numbers of pooled names, and the
+//! deltas that are added to it.
+#![tactic(auto)]
+
+mod applying;
+mod delta;
+mod delta_row;
+mod edge;
+mod graph;
+mod names;
+mod node_row;
+#[cfg(test)]
+mod tests;
+
+
+
+pub use applying::{ApplyStop, apply};
+pub use delta::{Delta, Value};
+pub use edge::Edge;
+pub use graph::Graph;

@@ -1,0 +1,151 @@
+//! Pooled names.
+
+ghost use Rattle.std.specs.Prelude.{◌≡◌, ◌+◌, ◌<◌, ◌≤◌, ◌++◌, [], length, take, map, slice_get};
+ghost use Rattle.std.specs.Prelude.{slice_index_or, option_copied, IfOk, OnOk, OnErr};
+ghost use Rattle.graph_store.specs.Pool.{Adds, Numbers};
+ghost use Rattle.graph_store.specs.Rows.{IsNameOrNone};
+
+use indexmap::IndexSet;
+use std::alloc::{AllocError, Global};
+use std::hash::RandomState;
+use std::marker::Model;
+
+/// The number of no name.
+pub(crate) const NO_NAME: u32 = u32::MAX;
+
+/// Names, each kept once. Contracts see the list of them: a name's number is its position.
+///
+/// They are hashed by SipHash with a key, so that who chooses the names can't have them collide.
+#[derive(Drop)]
+pub(crate) struct Names {
+    set: IndexSet<Vec<u8>, RandomState>,
+}
+
+impl Model for Names {
+    ghost use Rattle.std.specs.Prelude.{List, ℕ, ◌≤◌, length, map};
+    ghost use Rattle.std.specs.Coded.{coded_list, coded_ℕ};
+    ghost use Rattle.graph_store.specs.declared.names.TheConstants.{NO_NAME};
+    ghost use Rattle.graph_store.specs.Pool.{names_of};
+
+    ghost Value = { List (List ℕ) };
+
+    ghost coded = { coded_list (coded_list coded_ℕ) };
+
+    ghost view = { λ names. names_of names.set };
+
+    ghost invariant = { λ names. length names.set.keys ≤ NO_NAME };
+}
+
+impl Names {
+    /// No names, which are to be hashed with this key.
+    pub(crate) fn new(alloc: Global, hashes: RandomState) -> Names
+        ensures { result ≡ [] }
+    {
+        Names {
+            set: IndexSet::with_hasher(alloc, hashes),
+        }
+    }
+
+    pub(crate) fn hashes(&self) -> RandomState {
+        *self.set.hasher()
+    }
+
+    /// How many names there are.
+    pub(crate) fn len(&self) -> u32
+        ensures len { result ≡ length self.now }
+        ensures few { length self.now ≤ NO_NAME }
+    {
+        self.set.len() as u32
+    }
+
+    /// The name of this number, where there is one.
+    pub(crate) fn text(&self, number: u32) -> Option<&[u8]>
+        ensures { option_copied result ≡ slice_get self.now number }
+    {
+        match self.set.get_index(number as usize) {
+            Some(name) => Some(name.as_slice()),
+            None => None,
+        }
+    }
+
+    /// The number of a name, which is added at the end if it is new.
+    pub(crate) fn number_of(&mut self, name: &[u8]) -> Result<u32, AllocError>
+        ensures stored { IfOk result (λ number. slice_get self.new number ≡ Some name.now) }
+        ensures adds { Adds self.old self.new }
+        ensures one { length self.new ≤ length self.old + 1 }
+        ensures few { length self.new ≤ NO_NAME }
+        ensures err { OnErr result (self.new ≡ self.old) }
+    {
+        if let Some(number) = self.set.get_index_of(name) {
+            return Ok(number as u32);
+        }
+        if self.set.len() >= NO_NAME as usize {
+            return Err(AllocError);
+        }
+        let alloc = *self.set.allocator();
+        let (number, _) = self.set.insert_full(name.to_vec(alloc)?)?;
+        Ok(number as u32)
+    }
+
+    /// The number of a variable's name, which is `NO_NAME` for the empty one.
+    pub(crate) fn variable_of(&mut self, name: &[u8]) -> Result<u32, AllocError>
+        ensures stored { IfOk result (λ number. slice_index_or self.new number [] ≡ name.now) }
+        ensures number { IfOk result (IsNameOrNone (length self.new)) }
+        ensures unnamed { IfOk result (λ number. name.now ≡ [] → number ≡ NO_NAME) }
+        ensures adds { Adds self.old self.new }
+        ensures few { length self.new ≤ NO_NAME }
+        ensures err { OnErr result (self.new ≡ self.old) }
+    {
+        if name.is_empty() {
+            let _ = &self.set;
+            return Ok(NO_NAME);
+        }
+        self.number_of(name)
+    }
+
+    /// Keeps the first `count` names.
+    pub(crate) fn truncate(&mut self, count: u32)
+        ensures { self.new ≡ take count self.old }
+    {
+        self.set.truncate(count as usize);
+    }
+
+    /// The numbers that all the names of another pool have in this one, to which they are added.
+    pub(crate) fn add_all(&mut self, alloc: Global, more: &Names) -> Result<Vec<u32>, AllocError>
+        ensures numbers { IfOk result (λ numbers. Numbers more.now self.new numbers.items) }
+        ensures adds { Adds self.old self.new }
+        ensures few { length self.new ≤ NO_NAME }
+        ensures err { OnErr result (self.new ≡ self.old) }
+    {
+        let before = self.len();
+        let result = self.numbers_of(alloc, more);
+        if result.is_err() {
+            self.truncate(before);
+        }
+        result
+    }
+
+    fn numbers_of(&mut self, alloc: Global, more: &Names) -> Result<Vec<u32>, AllocError>
+        ensures numbers { IfOk result (λ numbers. Numbers more.now self.new numbers.items) }
+        ensures adds { Adds self.old self.new }
+        ensures few { length self.new ≤ NO_NAME }
+    {
+        let _ = &self.set;
+        let mut numbers = Vec::with_capacity(alloc, more.set.len())?;
+        for name in more.set.as_slice() {
+            numbers.push(self.number_of(name)?)?;
+        }
+        Ok(numbers)
+    }
+
+    /// The same names, in memory of their own.
+    pub(crate) fn copy(&self, alloc: Global) -> Result<Names, AllocError>
+        ensures { IfOk result (λ copy. copy ≡ self.now) }
+    {
+        let mut set = IndexSet::with_capacity_and_hasher(alloc, self.set.len(), self.hashes())?;
+        for name in self.set.as_slice() {
+            set.insert_full(name.as_slice().to_vec(alloc)?)?;
+        }
+        Ok(Names { set })
+    }
+}
