@@ -1,0 +1,12 @@
+pub mod Counting
+pub mod Moving
+pub mod SortedKeys
+pub mod Windows
+pub mod Parts
+pub mod Rising
+pub mod FilteredOrder
+pub mod Cuts
+pub mod WholeSide
+pub mod Ends
+pub mod LentEdges
+pub mod OneEdge

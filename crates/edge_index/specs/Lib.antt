@@ -1,0 +1,4 @@
+pub mod NodeEdges
+pub mod Indexed
+pub mod Rows
+pub mod Kept

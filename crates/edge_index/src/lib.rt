@@ -1,0 +1,13 @@
+//! The index of a graph: the edges of each node, by kind and in order, lent as slices.
+#![tactic(auto)]
+
+mod direction;
+mod grouping;
+mod index;
+pub mod laws;
+mod row;
+mod side;
+#[cfg(test)]
+mod tests;
+
+pub use index::{Index, index_of};

@@ -1,0 +1,3 @@
+pub mod Sequencing
+pub mod Fitting
+pub mod Shaping
