@@ -1,6 +1,17 @@
 -- The pass of the tests: what a part adds, that it fits, and that it keeps a graph shaped.
 use Rattle.std.specs.Prelude.{
-  ℕ, ◌≡◌, ◌+◌, ◌<◌, List, [], ◌∷◌, ◌++◌, Some, Ok, length, refl
+  ℕ,
+  ◌≡◌,
+  ◌+◌,
+  ◌<◌,
+  List,
+  [],
+  ◌∷◌,
+  ◌++◌,
+  Some,
+  Ok,
+  length,
+  refl,
 }
 use Rattle.std.specs.List.{All}
 use Rattle.std.proofs.lemmas.List.Elements.{All-nil, All-cons}
@@ -47,7 +58,8 @@ typed_local_fits graph count =
           All-cons (λ (edge : NewEdge). IsOldEnd first edge.from) type_edge [] tt (All-nil _);
       old_to = All-cons (λ (edge : NewEdge). IsOldEnd first edge.to) type_edge [] tt (All-nil _);
       allowed =
-          All-cons (IsEdgeAmong (graph.nodes ++ new)) (added_edge first type_edge) [] among (All-nil _);
+          All-cons (IsEdgeAmong (graph.nodes ++ new)) (added_edge first type_edge) [] among
+          (All-nil _);
       settings = tt;
     }
 
