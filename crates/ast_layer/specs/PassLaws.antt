@@ -1,7 +1,7 @@
 -- What each part adds fits, and makes a shaped graph.
-use Rattle.std.proofs.Common.{◌≡◌, ℕ, ◌<◌, List, [], Option, Some, None, Ok, length, slice_get, refl}
+use Rattle.std.specs.Prelude.{ℕ, ◌≡◌, List, Option, Some, None, Ok, length, slice_get, refl}
 use Rattle.cpg_schema.specs.declared.caps.Caps.{Caps}
-use Rattle.cpg_schema.specs.Graph.{PlainGraph, plain_graph}
+use Rattle.cpg_schema.specs.Graph.{PlainGraph}
 use Rattle.cpg_schema.specs.Fitting.{Fits}
 use Rattle.cpg_schema.specs.Sequence.{seq}
 use Rattle.cpg_schema.specs.Shape.{IsShaped}
@@ -9,7 +9,7 @@ use Rattle.graph_forest.specs.Forest.{IsAllowed, IsPlanted}
 use Rattle.ast_layer.specs.declared.source.Source.{Source}
 use Rattle.ast_layer.specs.Source.{file_of}
 use Rattle.ast_layer.specs.Parts.{IsEmptyGraph, source_forest, part_delta}
-use Rattle.ast_layer.proofs.Allowed.{file_allowed}
+use Rattle.ast_layer.specs.Allowed.{file_allowed}
 
 source_allowed : (source : Option Source) → IsAllowed (source_forest source)
 source_allowed None = tt
@@ -22,9 +22,11 @@ part_planted sources part = record {
   is = refl;
 }
 
-pub parts_fit : (sources : List Source) (graph : PlainGraph) (part : ℕ) → Fits graph (part_delta sources part)
+pub parts_fit : (sources : List Source) (graph : PlainGraph) (part : ℕ) →
+    Fits graph (part_delta sources part)
 parts_fit sources graph part = ?
 
-pub parts_shape : (sources : List Source) (caps : Caps) (start graph : PlainGraph) → IsEmptyGraph start →
-    seq caps start (part_delta sources) (length sources) ≡ Ok graph → IsShaped graph
+pub parts_shape : (sources : List Source) (caps : Caps) (start graph : PlainGraph) →
+    IsEmptyGraph start → seq caps start (part_delta sources) (length sources) ≡ Ok graph →
+    IsShaped graph
 parts_shape sources caps start graph empty is = ?
