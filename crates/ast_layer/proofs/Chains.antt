@@ -1,5 +1,5 @@
 -- Chains of operators: their CALLs are entered one by one, and left one by one.
-use Rattle.std.proofs.Common.{◌≡◌, ℕ, zero, suc, ◌+◌, ◌<◌, List, [], ◌∷◌, ◌++◌, length, get_or, take, drop, refl, sym, ap, subst, ◌∙◌, arith, add-one, drop-cons, take-suc}
+use Rattle.std.proofs.Common.{◌≡◌, ℕ, zero, suc, ◌+◌, ◌<◌, ◌≤◌, List, [], ◌∷◌, ◌++◌, length, get_or, take, drop, refl, sym, ap, subst, ◌∙◌, arith, add-one, drop-cons, take-suc}
 use Rattle.std.proofs.lemmas.List.{take_all, drop_all}
 use Rattle.c_tree.specs.declared.tree.Prefixed.{Prefixed}
 use Rattle.graph_forest.specs.declared.hang.Hang.TheVariants.{Argument}
@@ -128,3 +128,27 @@ pub closes_step : (a b c closed : Planting) (file : File) (rest : List (ℕ × P
     Closes file (drop i rest) a closed
 closes_step a b c closed file rest i item below is planted left closes =
     subst (λ (l : List (ℕ × Prefixed)). Closes file l a closed) (sym (left_is rest i item below is)) (b, c, planted, left, closes)
+
+-- No operand is left.
+pub closes_none : (a : Planting) (file : File) (rest : List (ℕ × Prefixed)) (i : ℕ) → length rest ≤ i → Closes file (drop i rest) a a
+closes_none a file rest i all = subst (λ (l : List (ℕ × Prefixed)). Closes file l a a) (sym (drop_all i rest all)) refl
+
+-- Before the first operator stands an operand alone.
+pub operators_none : (a b : Planting) (file : File) (rank : Rank) (first : Prefixed) (rest : List (ℕ × Prefixed)) (n : ℕ) → n ≡ 0 →
+    Plants a b (leaf rank.hang (operand_node file first rank)) → Plants a b (grouped_forest file rank (front first rest n))
+operators_none a b file rank first rest n none planted =
+    subst (λ (n : ℕ). Plants a b (grouped_forest file rank (front first rest n))) (sym none) planted
+
+-- One more open node is left.
+pub leaves_step : (a b closed : Planting) (n m : ℕ) → n ≡ m + 1 → Leaves a b → LeavesMany m b closed → LeavesMany n a closed
+leaves_step a b closed n m more left rest =
+    subst (λ (k : ℕ). LeavesMany k a closed) (sym (more ∙ add-one m)) (b, left, rest)
+
+pub leaves_none : (a : Planting) (n : ℕ) → n ≡ 0 → LeavesMany n a a
+leaves_none a n none = subst (λ (k : ℕ). LeavesMany k a a) (sym none) refl
+
+-- No target is left.
+pub targets_end : (a b : Planting) (file : File) (rank : Rank) (targets : List (Prefixed × ℕ)) (value : Grouped) (i : ℕ) → length targets ≤ i →
+    Plants a b (grouped_forest file rank value) → Plants a b (grouped_forest file rank (to_the_right (drop i targets) value))
+targets_end a b file rank targets value i all planted =
+    subst (λ (l : List (Prefixed × ℕ)). Plants a b (grouped_forest file rank (to_the_right l value))) (sym (drop_all i targets all)) planted

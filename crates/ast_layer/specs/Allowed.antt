@@ -58,7 +58,8 @@ children_allowed : (file : File) (order : ℕ) (children : List Grouped) →
     IsAllowedUnder (Some Block) (children_forest file order children)
 children_allowed file order [] = tt
 children_allowed file order (first ∷ rest) =
-    allowed_beside _ _ _ (expression_child file order first) (children_allowed file (order + 1) rest)
+    let others = children_allowed file (order + 1) rest in
+    allowed_beside _ _ _ (expression_child file order first) others
 
 -- A function, and functions.
 function_allowed : (file : File) (order : ℕ) (function : Item) →
@@ -71,7 +72,8 @@ functions_allowed : (file : File) (order : ℕ) (items : List Item) →
     IsAllowedUnder (Some Block) (functions_forest file order items)
 functions_allowed file order [] = tt
 functions_allowed file order (first ∷ rest) =
-    allowed_beside _ _ _ (function_allowed file order first) (functions_allowed file (order + 1) rest)
+    let others = functions_allowed file (order + 1) rest in
+    allowed_beside _ _ _ (function_allowed file order first) others
 
 -- A file.
 pub file_allowed : (file : File) (unit : Unit) → IsAllowed (file_forest file unit)

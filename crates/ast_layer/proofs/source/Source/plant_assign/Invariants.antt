@@ -15,4 +15,5 @@ invariant-loop-target l =
 
 -- So many CALLs are left.
 abbrev pub invariant-leaving : goal.invariant-leaving
-invariant-leaving l = ?
+invariant-leaving l =
+    (closed : Planting) → LeavesMany (length l.targets - l.index) l.planter closed → LeavesMany (length l.targets) l.initial.planter closed
