@@ -1,3 +1,2 @@
-pub mod Planting
-pub mod Allowed
 pub mod Chains
+pub mod Children

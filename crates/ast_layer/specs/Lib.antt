@@ -6,4 +6,5 @@ pub mod Ranks
 pub mod Nodes
 pub mod Forests
 pub mod Parts
+pub mod Allowed
 pub mod PassLaws

@@ -44,7 +44,7 @@ impl Source {
             rank = Rank::argument(2);
         }
         self.plant_binary(planter, &assign.value.last, rank)?;
-        for _ in targets {
+        'leaving: for _ in targets {
             planter.leave();
         }
         Ok(())

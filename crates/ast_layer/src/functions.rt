@@ -66,15 +66,28 @@ impl Source {
                 specs,
                 declarator,
                 body,
-            } => {
-                let name = name_of(declarator);
-                planter.enter(Hang::Plain, &self.method(name, order))?;
-                self.plant_block(planter, body)?;
-                planter.leaf(Hang::Plain, &self.method_return(name, type_of(specs)))?;
-                planter.leave();
-                Ok(())
-            }
+            } => self.plant_define(planter, specs, declarator, body, order),
         }
+    }
+
+    /// Plants a function, by the parts of its definition.
+    fn plant_define(
+        &self,
+        planter: &mut Planter,
+        specs: &Specs,
+        declarator: &Declarator,
+        body: &Block,
+        order: u32,
+    ) -> Result<(), AllocError>
+        ensures { OnOk result (Plants planter.old planter.new (function_forest (file_of self.now)
+            order (Item.Define specs.now declarator.now body.now))) }
+    {
+        let name = name_of(declarator);
+        planter.enter(Hang::Plain, &self.method(name, order))?;
+        self.plant_block(planter, body)?;
+        planter.leaf(Hang::Plain, &self.method_return(name, type_of(specs)))?;
+        planter.leave();
+        Ok(())
     }
 
     /// Plants the body of a function.

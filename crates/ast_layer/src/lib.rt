@@ -10,6 +10,8 @@ mod operator;
 mod pass;
 mod rank;
 mod source;
+#[cfg(test)]
+mod tests;
 
 pub use pass::{AstPass, MAX_SOURCES};
 pub use source::Source;

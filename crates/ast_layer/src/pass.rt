@@ -1,41 +1,32 @@
 //! The pass that adds the syntax layer.
 
-ghost use Rattle.std.specs.Prelude.{◌≡◌, ◌≤◌, length, vec_len};
+ghost use Rattle.std.specs.Prelude.{◌≡◌, ◌≤◌, vec_len};
+ghost use Rattle.ast_layer.specs.declared.pass.TheConstants.{MAX_SOURCES};
 
 use crate::source::Source;
 use graph_delta::{Delta, Pass};
 use graph_forest::Planter;
 use graph_store::Graph;
 use std::alloc::{AllocError, Global};
-use std::marker::Model;
 
 /// How many sources a pass has at most.
 pub const MAX_SOURCES: usize = 4096;
 
-/// The pass that adds the syntax layer of each source to the empty graph. Contracts see the
-/// sources. Each is a part, and what it adds is the forest of its file.
+/// The pass that adds the syntax layer of each source to the empty graph. Contracts see the sources
+/// by `sources_of`. Each is a part, and what it adds is the forest of its file.
 #[derive(Drop)]
 pub struct AstPass {
     sources: Vec<Source>,
-}
-
-impl Model for AstPass {
-    ghost use Rattle.std.specs.Prelude.{List, ◌≤◌, vec_len};
-    ghost use Rattle.ast_layer.specs.declared.source.Source.{Source};
-    ghost use Rattle.ast_layer.specs.declared.pass.TheConstants.{MAX_SOURCES};
-
-    ghost Value = { List Source };
-
-    ghost view = { λ pass. pass.sources.items };
-
-    ghost invariant = { λ pass. vec_len pass.sources ≤ MAX_SOURCES };
+    ghost few: { vec_len sources ≤ MAX_SOURCES },
 }
 
 impl AstPass {
+    ghost use Rattle.ast_layer.specs.Parts.{sources_of};
+
     /// The pass over these sources. It takes no memory.
     pub fn new(sources: Vec<Source>) -> AstPass
         requires few { vec_len sources ≤ MAX_SOURCES }
-        ensures { result ≡ sources.items }
+        ensures { sources_of result ≡ sources.items }
     {
         AstPass { sources }
     }
@@ -45,14 +36,14 @@ impl Pass for AstPass {
     type Ready = ();
 
     ghost use Rattle.std.specs.Prelude.{length};
-    ghost use Rattle.ast_layer.specs.Parts.{IsEmptyGraph, part_delta};
+    ghost use Rattle.ast_layer.specs.Parts.{IsEmptyGraph, part_delta, sources_of};
     ghost use Rattle.ast_layer.specs.PassLaws.{parts_fit, parts_shape};
 
     ghost takes = { λ _ graph. IsEmptyGraph graph };
 
-    ghost parts_of = { λ sources _. length sources };
+    ghost parts_of = { λ pass _. length (sources_of pass) };
 
-    ghost delta_of = { λ sources _ part. part_delta sources part };
+    ghost delta_of = { λ pass _ part. part_delta (sources_of pass) part };
 
     ghost is_ready = { λ _ _ _. Unit {0} };
 
@@ -76,8 +67,8 @@ impl Pass for AstPass {
         Ok(planter.finish())
     }
 
-    ghost fits = { λ sources caps start graph _ part _ _. parts_fit sources graph part };
+    ghost fits = { λ pass _ _ graph _ part _ _. parts_fit (sources_of pass) graph part };
 
-    ghost shapes = { λ sources caps start graph empty is.
-        parts_shape sources caps start graph empty is };
+    ghost shapes = { λ pass caps start graph empty is.
+        parts_shape (sources_of pass) caps start graph empty is };
 }
