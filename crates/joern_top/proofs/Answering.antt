@@ -31,8 +31,8 @@ no_command_is_usage run a usage (inr (same, taken)) is = absurd (no_answer_at_wr
 pub usage_line_is : (run : Run) (a : Answer) → IsWritten run a → run.status ≡ status.Usage → Takes run.out_before run.out_after usage_line
 usage_line_is run answer.Usage (inl (same, taken)) is = taken
 usage_line_is run (answer.ReadFault name) (inl (same, taken)) is = absurd cc
-usage_line_is run answer.TooLarge (inl (same, taken)) is = absurd cc
+usage_line_is run (answer.Limit quantity at) (inl (same, taken)) is = absurd cc
 usage_line_is run (answer.Refused name refusal) (inl (same, taken)) is = absurd cc
-usage_line_is run (answer.Dump name) (inl (same, taken)) is = absurd cc
+usage_line_is run (answer.Dump built) (inl (same, taken)) is = absurd cc
 usage_line_is run answer.NoMemory (inl (same, taken)) is = absurd cc
 usage_line_is run a (inr (same, taken)) is = absurd cc

@@ -57,9 +57,9 @@ CanBeOk = (words : List (List ℕ)) (held : Held) (o : Outcome) → CanAnswer wo
 only_no_memory : (a : Answer) → (outcome_of a).status ≡ status.NoMemory → a ≡ answer.NoMemory
 only_no_memory answer.Usage is = absurd cc
 only_no_memory (answer.ReadFault name) is = absurd cc
-only_no_memory answer.TooLarge is = absurd cc
+only_no_memory (answer.Limit quantity at) is = absurd cc
 only_no_memory (answer.Refused name refusal) is = absurd cc
-only_no_memory (answer.Dump read) is = absurd cc
+only_no_memory (answer.Dump built) is = absurd cc
 only_no_memory answer.NoMemory is = refl
 
 -- So another answer does not end so.

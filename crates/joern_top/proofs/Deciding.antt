@@ -36,9 +36,9 @@ pub by_kind : (P : Answer → Type 0) → ((a : Answer) → IsDecided a → P a)
     ((name : _) → P (answer.ReadFault name)) → P answer.NoMemory → (a : Answer) → P a
 by_kind P decided fault memory answer.Usage = decided answer.Usage tt
 by_kind P decided fault memory (answer.ReadFault name) = fault name
-by_kind P decided fault memory answer.TooLarge = decided answer.TooLarge tt
+by_kind P decided fault memory (answer.Limit quantity at) = decided (answer.Limit quantity at) tt
 by_kind P decided fault memory (answer.Refused name refusal) = decided (answer.Refused name refusal) tt
-by_kind P decided fault memory (answer.Dump read) = decided (answer.Dump read) tt
+by_kind P decided fault memory (answer.Dump built) = decided (answer.Dump built) tt
 by_kind P decided fault memory answer.NoMemory = memory
 
 -- Where the status is an answer, the answer was decided.
@@ -55,9 +55,9 @@ no_answer_at_write_fault end same is = let P : Status → Type 0 = IsAnswer in s
 pub never_write_fault : (a : Answer) → ¬ ((outcome_of a).status ≡ status.WriteFault)
 never_write_fault answer.Usage is = cc
 never_write_fault (answer.ReadFault name) is = cc
-never_write_fault answer.TooLarge is = cc
+never_write_fault (answer.Limit quantity at) is = cc
 never_write_fault (answer.Refused name refusal) is = cc
-never_write_fault (answer.Dump read) is = cc
+never_write_fault (answer.Dump built) is = cc
 never_write_fault answer.NoMemory is = cc
 
 -- The status of a read fault is that of the first file, and comes of a `ReadFault` alone.
@@ -68,7 +68,7 @@ at_read_fault (answer.ReadFault name) number is P here =
     let Q : ℕ → Type 0 = P (answer.ReadFault name) in
     subst Q first (here name)
 at_read_fault answer.Usage number is P here = absurd cc
-at_read_fault answer.TooLarge number is P here = absurd cc
+at_read_fault (answer.Limit quantity at) number is P here = absurd cc
 at_read_fault (answer.Refused name refusal) number is P here = absurd cc
-at_read_fault (answer.Dump read) number is P here = absurd cc
+at_read_fault (answer.Dump built) number is P here = absurd cc
 at_read_fault answer.NoMemory number is P here = absurd cc

@@ -8,4 +8,4 @@ pub mod OneOutcome
 pub mod SomeOutcome
 pub mod Presuming
 pub mod Refusing
-pub mod FewNodes
+pub mod Building

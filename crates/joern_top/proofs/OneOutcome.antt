@@ -1,6 +1,6 @@
 -- The words and the held files have one outcome.
 use Rattle.std.proofs.Common.{◌≡◌, ℕ, ◌≤◌, inl, inr, List, [], ◌∷◌, length, Option, Some, None, refl, sym, ◌∙◌, ap, subst, arith}
-use Rattle.std.specs.Prelude.{IsSome, All, Contains}
+use Rattle.std.specs.Prelude.{IsSome, IsOk, Result, Ok, Err, All, Contains}
 use Rattle.std.specs.List.{AllZip}
 use Rattle.joern_io.specs.Held.{Held, file_of}
 use Rattle.c_lexer.specs.declared.source_text.TheConstants.{MAX_FILE_BYTES}
@@ -10,10 +10,13 @@ use Rattle.line_marks.specs.Presumed.{Presumed, Said, Says, first_presumption, p
 use Rattle.c_tree.specs.declared.tree.Unit.{Unit}
 use Rattle.first_grammar.specs.FirstUnit.{IsFirstUnit}
 use Rattle.line_marks.specs.Kept.{items_at}
+use Rattle.cpg_schema.specs.Graph.{PlainGraph}
+use Rattle.cpg_schema.specs.Sequence.{Cap}
 use Rattle.joern_top.specs.declared.status.Status.TheVariants as status
 use Rattle.joern_top.specs.Words.{Command, Dump, command, files_of}
-use Rattle.joern_top.specs.Source.{Parts, ArePresumed, IsReadAs, IsAccepted, graph_of}
-use Rattle.joern_top.specs.Run.{Outcome, IsOutcome, IsCommandOutcome, IsFileOutcome, IsSourceOutcome, refused_outcome, graph_outcome}
+use Rattle.joern_top.specs.Source.{Parts, ArePresumed, IsReadAs, IsAccepted, forest_of}
+use Rattle.joern_top.specs.Graph.{built_alone}
+use Rattle.joern_top.specs.Run.{Outcome, IsOutcome, IsCommandOutcome, IsFileOutcome, IsSourceOutcome, refused_outcome, built_outcome}
 use Rattle.joern_top.specs.Run.IsSourceOutcome.{refused, read}
 use Rattle.joern_top.specs.Headline.{IsReadable, CanAnswer}
 use Rattle.joern_top.proofs.Fate.{Unique, one_stripping, one_refusal, never_refused}
@@ -89,7 +92,7 @@ one_source_outcome unique marker tree name bytes o p (refused at why is) (read p
 one_source_outcome unique marker tree name bytes o p (read parts how) (refused at why is) =
     absurd (never_refused unique bytes parts.tokens parts.kept parts.unit how.stripped how.parsed at why is)
 one_source_outcome unique marker tree name bytes o p (read parts how) (read others again) =
-    ap (λ parts. graph_outcome (graph_of name bytes parts)) (one_reading unique marker tree name bytes parts others how again)
+    ap (λ parts. built_outcome (built_alone (forest_of name bytes parts))) (one_reading unique marker tree name bytes parts others how again)
 
 one_file_outcome : Unique → OneMarker → OneUnit → (name : List ℕ) (file : Option (List ℕ)) (o p : Outcome) → IsFileOutcome name file o → IsFileOutcome name file p → o ≡ p
 one_file_outcome unique marker tree name None o p first second = first ∙ sym second
@@ -105,25 +108,36 @@ one_command_outcome unique marker tree (Some (Dump name)) held o p first second 
 pub one_outcome : Unique → OneMarker → OneUnit → (words : List (List ℕ)) (held : Held) (o p : Outcome) → IsOutcome words held o → IsOutcome words held p → o ≡ p
 one_outcome unique marker tree words held o p first second = one_command_outcome unique marker tree (command words) held o p first second
 
+-- A graph that passes no cap is printed.
+built_is_ok : (graph : Result PlainGraph Cap) → IsOk graph → (built_outcome graph).status ≡ status.Ok
+built_is_ok (Ok graph) within = refl
+built_is_ok (Err cap) within = absurd cc
+
+-- The graph of a source of this name with these bytes passes no cap.
+abbrev IsWithinCaps : List ℕ → List ℕ → Type 0
+IsWithinCaps name bytes = (parts : Parts) → IsReadAs name bytes parts → IsOk (built_alone (forest_of name bytes parts))
+
 -- The outcome for an accepted source.
-accepted_source_is_ok : Unique → (name bytes : List ℕ) (o : Outcome) → IsAccepted bytes → IsSourceOutcome name bytes o → o.status ≡ status.Ok
-accepted_source_is_ok unique name bytes o can (refused at why is) =
+accepted_source_is_ok : Unique → (name bytes : List ℕ) (o : Outcome) → IsAccepted bytes → IsWithinCaps name bytes → IsSourceOutcome name bytes o → o.status ≡ status.Ok
+accepted_source_is_ok unique name bytes o can within (refused at why is) =
     absurd (never_refused unique bytes can.tokens can.kept can.unit can.stripped can.parsed at why is)
-accepted_source_is_ok unique name bytes o can (read parts is) = refl
+accepted_source_is_ok unique name bytes o can within (read parts is) = built_is_ok (built_alone (forest_of name bytes parts)) (within parts is)
 
 -- The same, of a file within the limit.
-accepted_is_ok : Unique → (name bytes : List ℕ) (o : Outcome) → length bytes ≤ MAX_FILE_BYTES → IsAccepted bytes → IsFileOutcome name (Some bytes) o → o.status ≡ status.Ok
-accepted_is_ok unique name bytes o small accepted (inl (large, is)) = absurd (omega arith)
-accepted_is_ok unique name bytes o small accepted (inr (again, is)) = accepted_source_is_ok unique name bytes o accepted is
+accepted_is_ok : Unique → (name bytes : List ℕ) (o : Outcome) → length bytes ≤ MAX_FILE_BYTES → IsAccepted bytes → IsWithinCaps name bytes → IsFileOutcome name (Some bytes) o → o.status ≡ status.Ok
+accepted_is_ok unique name bytes o small accepted within (inl (large, is)) = absurd (omega arith)
+accepted_is_ok unique name bytes o small accepted within (inr (again, is)) = accepted_source_is_ok unique name bytes o accepted within is
 
 command_is_ok : Unique → (c : Option Command) (held : Held) (o : Outcome) → IsSome c → All (IsReadable held) (files_of c) →
     ((name bytes : List ℕ) → Contains (files_of c) name → file_of held name ≡ Some bytes → IsAccepted bytes) →
+    ((name bytes : List ℕ) (parts : Parts) → Contains (files_of c) name → file_of held name ≡ Some bytes → IsReadAs name bytes parts → IsOk (built_alone (forest_of name bytes parts))) →
     IsCommandOutcome c held o → o.status ≡ status.Ok
-command_is_ok unique None held o commanded readable accepted is = absurd cc
-command_is_ok unique (Some (Dump name)) held o commanded readable accepted is =
+command_is_ok unique None held o commanded readable accepted within is = absurd cc
+command_is_ok unique (Some (Dump name)) held o commanded readable accepted within is =
     let (bytes, there, small) : IsReadable held name = readable 0 [] (omega arith) in
     let Q : Option (List ℕ) → Type 0 = λ file. IsFileOutcome name file o in
-    accepted_is_ok unique name bytes o small (accepted name bytes (0, omega arith, refl) there) (subst Q there is)
+    accepted_is_ok unique name bytes o small (accepted name bytes (0, omega arith, refl) there)
+    (λ parts is. within name bytes parts (0, omega arith, refl) there is) (subst Q there is)
 
 pub can_answer : Unique → (words : List (List ℕ)) (held : Held) (o : Outcome) → CanAnswer words held → IsOutcome words held o → o.status ≡ status.Ok
-can_answer unique words held o can is = command_is_ok unique (command words) held o can.commanded can.readable can.accepted is
+can_answer unique words held o can is = command_is_ok unique (command words) held o can.commanded can.readable can.accepted can.within_caps is

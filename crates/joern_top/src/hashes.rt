@@ -8,6 +8,7 @@ use std::io;
 use std::random::RandomSource;
 
 /// The digest of all names that a source can give, from which a key is taken.
+#[derive(Drop)]
 struct NameDigest {
     bytes: [u8; 32],
 }

@@ -6,7 +6,7 @@ use Rattle.joern_top.proofs.answer.source_answer.Goals as goal
 
 pub returns-in-Ok-clause-decided : goal.returns-in-Ok-clause-decided
 returns-in-Ok-clause-decided c = λ decided.
-    decided_read _ _ _ (omega (arith, c.requires.within, c.args.bytes.ok.0)) c.in-Ok.ensures.ok
+    decided_read _ _ _ _ (omega (arith, c.requires.within, c.args.bytes.ok.0)) c.in-Ok.ensures.ok (c.graph_answer.ensures.decided decided)
 
 pub returns-in-Err-Refused-clause-decided : goal.returns-in-Err-Refused-clause-decided
 returns-in-Err-Refused-clause-decided c = λ decided.

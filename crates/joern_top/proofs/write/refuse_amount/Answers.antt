@@ -1,5 +1,5 @@
 use Rattle.std.proofs.lemmas.List.{append-nil}
-use Rattle.joern_top.proofs.write.refuse_large_file.Goals as goal
+use Rattle.joern_top.proofs.write.refuse_amount.Goals as goal
 
 pub returns : goal.returns
 returns g c = simp append-nil at c.refuse.ensures
