@@ -2,7 +2,7 @@
 
 ghost use Rattle.std.specs.Prelude.{◌≡◌, ◌∷◌, [], Some, Err, IfOk};
 ghost use Rattle.cpg_schema.specs.Sequence.{Cap};
-ghost use Rattle.ast_layer.specs.Parts.{source_forest};
+ghost use Rattle.ast_layer.specs.Parts.{source_forest, sources_of};
 ghost use Rattle.joern_top.specs.Graph.{built_alone};
 ghost use Rattle.joern_top.specs.Reading.{IsBuiltFrom};
 
@@ -52,7 +52,7 @@ pub(crate) fn build_graph(alloc: Global, source: Source) -> Result<BuiltGraph, A
 
 /// The pass that adds the syntax layer of a source.
 fn first_pass(alloc: Global, source: Source) -> Result<AstPass, AllocError>
-    ensures { IfOk result (λ pass. pass ≡ source ∷ []) }
+    ensures { IfOk result (λ pass. sources_of pass ≡ source ∷ []) }
 {
     let mut sources = Vec::new(alloc);
     sources.push(source)?;

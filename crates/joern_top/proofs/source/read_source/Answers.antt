@@ -1,4 +1,4 @@
-use Rattle.std.proofs.Common.{◌≡◌, refl}
+use Rattle.std.proofs.Common.{◌≡◌}
 use Rattle.joern_top.proofs.Presuming.{read_source_is}
 use Rattle.joern_top.proofs.source.read_source.Goals as goal
 
@@ -9,9 +9,15 @@ returns-clause-ok c =
     let tokens_too : c.deref-3.result.now ≡ c.in_ok-tokens.tokens.items = cc in
     let all_tokens : c.deref-4.result.now ≡ c.in_ok-tokens.tokens.items = cc in
     let kept : c.deref-5.result.now ≡ c.in_ok-kept.kept.items = cc in
-    read_source_is _ _ _ _ c.in_ok-unit.unit text (record {
-      lexed = rw text at c.in_ok-tokens.ensures.ok;
-      stripped = rw tokens at c.in_ok-kept.ensures.ok;
-      places = rw (text, tokens_too) at c.in_ok-places.ensures.ok;
-      parsed = rw (text, all_tokens, kept) at c.in_ok-unit.ensures.ok;
-    }) c.in_ok-layer.ensures.lines refl refl
+    let named : c.of.result ≡ c.args.name.now = cc in
+    let whole : c.of-2.result ≡ c.args.bytes.items = cc in
+    let held_tokens : c.of-3.result ≡ c.in_ok-tokens.tokens.items = cc in
+    let held_kept : c.of-4.result ≡ c.in_ok-kept.kept.items = cc in
+    read_source_is _ _ _ (record {
+      named = named;
+      whole = whole;
+      lexed = rw held_tokens (rw text at c.in_ok-tokens.ensures.ok);
+      stripped = rw (held_tokens, held_kept) (rw tokens at c.in_ok-kept.ensures.ok);
+      places = rw held_tokens (rw (text, tokens_too) at c.in_ok-places.ensures.ok);
+      parsed = rw (held_tokens, held_kept) (rw (text, all_tokens, kept) at c.in_ok-unit.ensures.ok);
+    })
