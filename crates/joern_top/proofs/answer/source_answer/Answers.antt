@@ -11,4 +11,5 @@ returns-in-Ok-clause-decided c = λ decided.
 pub returns-in-Err-Refused-clause-decided : goal.returns-in-Err-Refused-clause-decided
 returns-in-Err-Refused-clause-decided c = λ decided.
     let P : SourceStop → Type 0 = λ stop. IsStopOf c.args.bytes.items stop in
-    decided_refusal _ _ c.in-Err-Refused.refusal (omega (arith, c.requires.within, c.args.bytes.ok.0)) (subst P c.in-Err-Refused.field-0-is c.in-Err-Refused.ensures.refused)
+    let refused = subst P c.in-Err-Refused.field-0-is c.in-Err-Refused.ensures.refused in
+    rw c.in-Err-Refused.field-0-is (decided_refusal c.args.name.now c.args.bytes.items c.in-Err-Refused.refusal (omega (arith, c.requires.within, c.args.bytes.ok.0)) refused)
