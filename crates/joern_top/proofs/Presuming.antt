@@ -66,5 +66,5 @@ read_source_is name bytes source holds =
         parsed = holds.parsed;
       };
       forest = ap (λ name. forest name source.bytes shown) holds.named ∙ ap (λ bytes. forest name bytes shown) holds.whole
-      ∙ ap (λ places. forest name bytes places) same;
+          ∙ ap (λ places. forest name bytes places) same;
     }

@@ -41,11 +41,7 @@ impl From<AllocError> for SourceStop {
 }
 
 /// Reads a source. The first stage that refuses it decides.
-pub(crate) fn read_source(
-    alloc: Global,
-    name: &str,
-    bytes: Vec<u8>,
-) -> Result<Source, SourceStop>
+pub(crate) fn read_source(alloc: Global, name: &str, bytes: Vec<u8>) -> Result<Source, SourceStop>
     requires within { vec_len bytes ≤ MAX_FILE_BYTES }
     ensures ok { IfOk result (IsReadSource name.now bytes.items) }
     ensures refused { IfErr result (IsStopOf bytes.items) }
