@@ -31,11 +31,17 @@ fn a_file_of_functions_of_sums_and_assignments_is_read(rt: HostRuntime) -> Resul
     for (text, is_read) in [
         (b"".as_slice(), true),
         (b"int f(void){}".as_slice(), true),
-        (b"# 1 \"a.c\"\nint f(void) __asm__(\"g\") {1;2;}".as_slice(), true),
+        (
+            b"# 1 \"a.c\"\nint f(void) __asm__(\"g\") {1;2;}".as_slice(),
+            true,
+        ),
         (b"int f(void){a=b=1+c;}".as_slice(), true),
         (b"int f(void){1=2;f;}".as_slice(), true),
         (b"int f(void){} int g(void){f+g+f;}".as_slice(), true),
-        (b"int f(void){} int g(void){} int f(void){x;}".as_slice(), false),
+        (
+            b"int f(void){} int g(void){} int f(void){x;}".as_slice(),
+            false,
+        ),
         (b"char f(void){}".as_slice(), false),
         (b"int f(int){}".as_slice(), false),
         (b"int f(){}".as_slice(), false),
@@ -60,8 +66,8 @@ fn a_file_of_functions_of_sums_and_assignments_is_read(rt: HostRuntime) -> Resul
     Ok(())
 }
 
-// `__extension__ int f(void){x=1;}`: the tree's numbers count the kept tokens, of which `int` is the
-// first.
+// `__extension__ int f(void){x=1;}`: the numbers of the tree count the kept tokens, of which `int`
+// is the first.
 #[test]
 fn a_tree_spells_the_kept_tokens_of_its_file(rt: HostRuntime) -> Result<(), Fail> {
     let unit = read(rt.alloc(), b"__extension__ int f(void){x=1;}")??;

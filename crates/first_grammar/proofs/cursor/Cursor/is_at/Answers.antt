@@ -1,5 +1,4 @@
-use Rattle.std.proofs.Common.{rules, ◌≡◌, ◌+◌, [], ◌∷◌, Some, None, drop, subst, sym, ◌∙◌, IsTrue, ◌↔◌}
-use Rattle.std.specs.List.{slice_get}
+use Rattle.std.proofs.Common.{rules, ◌≡◌, ◌+◌, [], ◌∷◌, drop, subst, sym, ◌∙◌, IsTrue, ◌↔◌}
 use Rattle.c_tree.specs.Fits.{kinds_of}
 use Rattle.line_marks.specs.Kept.{items_at}
 use Rattle.first_grammar.specs.Rest.{Rest, IsAt, numbered}
