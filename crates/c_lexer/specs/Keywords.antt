@@ -2,62 +2,24 @@
 
 use Rattle.std.specs.Prelude.{ℕ, List, [], ◌∷◌}
 use Rattle.std.specs.List.{Contains}
-use Rattle.c_lexer.specs.declared.keyword.TheConstants.{
-  KEY_AUTO,
-  KEY_BREAK,
-  KEY_CASE,
-  KEY_CHAR,
-  KEY_CONST,
-  KEY_CONTINUE,
-  KEY_DEFAULT,
-  KEY_DO,
-  KEY_DOUBLE,
-  KEY_ELSE,
-  KEY_ENUM,
-  KEY_EXTERN,
-  KEY_FLOAT,
-  KEY_FOR,
-  KEY_GOTO,
-  KEY_IF,
-  KEY_INLINE,
-  KEY_INT,
-  KEY_LONG,
-  KEY_REGISTER,
-  KEY_RESTRICT,
-  KEY_RETURN,
-  KEY_SHORT,
-  KEY_SIGNED,
-  KEY_SIZEOF,
-  KEY_STATIC,
-  KEY_STRUCT,
-  KEY_SWITCH,
-  KEY_TYPEDEF,
-  KEY_UNION,
-  KEY_UNSIGNED,
-  KEY_VOID,
-  KEY_VOLATILE,
-  KEY_WHILE,
-  KEY_ALIGNAS,
-  KEY_ALIGNOF,
-  KEY_ATOMIC,
-  KEY_BOOL,
-  KEY_COMPLEX,
-  KEY_GENERIC,
-  KEY_IMAGINARY,
-  KEY_NORETURN,
-  KEY_STATIC_ASSERT,
-  KEY_THREAD_LOCAL,
-  KEY_BUILTIN_VA_LIST,
-  KEY_FLOAT32,
-  KEY_FLOAT64,
-  KEY_FLOAT128,
-  KEY_FLOAT32X,
-  KEY_FLOAT64X,
-  KEY_ATTRIBUTE,
-  KEY_EXTENSION,
-  KEY_ASM,
-  KEY_INT128,
-}
+use Rattle.c_lexer.specs.declared.keyword.TheConstants.{KEY_AUTO, KEY_BREAK, KEY_CASE, KEY_CHAR}
+use Rattle.c_lexer.specs.declared.keyword.TheConstants.{KEY_CONST, KEY_CONTINUE, KEY_DEFAULT}
+use Rattle.c_lexer.specs.declared.keyword.TheConstants.{KEY_DO, KEY_DOUBLE, KEY_ELSE, KEY_ENUM}
+use Rattle.c_lexer.specs.declared.keyword.TheConstants.{KEY_EXTERN, KEY_FLOAT, KEY_FOR, KEY_GOTO}
+use Rattle.c_lexer.specs.declared.keyword.TheConstants.{KEY_IF, KEY_INLINE, KEY_INT, KEY_LONG}
+use Rattle.c_lexer.specs.declared.keyword.TheConstants.{KEY_REGISTER, KEY_RESTRICT, KEY_RETURN}
+use Rattle.c_lexer.specs.declared.keyword.TheConstants.{KEY_SHORT, KEY_SIGNED, KEY_SIZEOF}
+use Rattle.c_lexer.specs.declared.keyword.TheConstants.{KEY_STATIC, KEY_STRUCT, KEY_SWITCH}
+use Rattle.c_lexer.specs.declared.keyword.TheConstants.{KEY_TYPEDEF, KEY_UNION, KEY_UNSIGNED}
+use Rattle.c_lexer.specs.declared.keyword.TheConstants.{KEY_VOID, KEY_VOLATILE, KEY_WHILE}
+use Rattle.c_lexer.specs.declared.keyword.TheConstants.{KEY_ALIGNAS, KEY_ALIGNOF, KEY_ATOMIC}
+use Rattle.c_lexer.specs.declared.keyword.TheConstants.{KEY_BOOL, KEY_COMPLEX, KEY_GENERIC}
+use Rattle.c_lexer.specs.declared.keyword.TheConstants.{KEY_IMAGINARY, KEY_NORETURN}
+use Rattle.c_lexer.specs.declared.keyword.TheConstants.{KEY_STATIC_ASSERT, KEY_THREAD_LOCAL}
+use Rattle.c_lexer.specs.declared.keyword.TheConstants.{KEY_BUILTIN_VA_LIST, KEY_FLOAT32}
+use Rattle.c_lexer.specs.declared.keyword.TheConstants.{KEY_FLOAT64, KEY_FLOAT128, KEY_FLOAT32X}
+use Rattle.c_lexer.specs.declared.keyword.TheConstants.{KEY_FLOAT64X, KEY_ATTRIBUTE, KEY_EXTENSION}
+use Rattle.c_lexer.specs.declared.keyword.TheConstants.{KEY_ASM, KEY_INT128}
 use Rattle.c_lexer.specs.Entries.{Entry, spelling, alternative, numbers_of}
 
 -- The keywords of C11, and after `_Thread_local` ours: some that system headers use. A keyword's

@@ -2,54 +2,24 @@
 
 use Rattle.std.specs.Prelude.{ℕ, List, [], ◌∷◌, slice_range}
 use Rattle.std.specs.List.{Contains}
-use Rattle.c_lexer.specs.declared.mark.TheConstants.{
-  MARK_LEFT_BRACKET,
-  MARK_RIGHT_BRACKET,
-  MARK_LEFT_PAREN,
-  MARK_RIGHT_PAREN,
-  MARK_LEFT_BRACE,
-  MARK_RIGHT_BRACE,
-  MARK_DOT,
-  MARK_ARROW,
-  MARK_PLUS_PLUS,
-  MARK_MINUS_MINUS,
-  MARK_AMPERSAND,
-  MARK_STAR,
-  MARK_PLUS,
-  MARK_MINUS,
-  MARK_TILDE,
-  MARK_EXCLAMATION,
-  MARK_SLASH,
-  MARK_PERCENT,
-  MARK_LEFT_SHIFT,
-  MARK_RIGHT_SHIFT,
-  MARK_LESS,
-  MARK_GREATER,
-  MARK_LESS_EQUAL,
-  MARK_GREATER_EQUAL,
-  MARK_EQUAL_EQUAL,
-  MARK_NOT_EQUAL,
-  MARK_CARET,
-  MARK_BAR,
-  MARK_AND_AND,
-  MARK_OR_OR,
-  MARK_QUESTION,
-  MARK_COLON,
-  MARK_SEMICOLON,
-  MARK_ELLIPSIS,
-  MARK_EQUAL,
-  MARK_STAR_EQUAL,
-  MARK_SLASH_EQUAL,
-  MARK_PERCENT_EQUAL,
-  MARK_PLUS_EQUAL,
-  MARK_MINUS_EQUAL,
-  MARK_LEFT_SHIFT_EQUAL,
-  MARK_RIGHT_SHIFT_EQUAL,
-  MARK_AMPERSAND_EQUAL,
-  MARK_CARET_EQUAL,
-  MARK_BAR_EQUAL,
-  MARK_COMMA,
-}
+use Rattle.c_lexer.specs.declared.mark.TheConstants.{MARK_LEFT_BRACKET, MARK_RIGHT_BRACKET}
+use Rattle.c_lexer.specs.declared.mark.TheConstants.{MARK_LEFT_PAREN, MARK_RIGHT_PAREN}
+use Rattle.c_lexer.specs.declared.mark.TheConstants.{MARK_LEFT_BRACE, MARK_RIGHT_BRACE, MARK_DOT}
+use Rattle.c_lexer.specs.declared.mark.TheConstants.{MARK_ARROW, MARK_PLUS_PLUS, MARK_MINUS_MINUS}
+use Rattle.c_lexer.specs.declared.mark.TheConstants.{MARK_AMPERSAND, MARK_STAR, MARK_PLUS}
+use Rattle.c_lexer.specs.declared.mark.TheConstants.{MARK_MINUS, MARK_TILDE, MARK_EXCLAMATION}
+use Rattle.c_lexer.specs.declared.mark.TheConstants.{MARK_SLASH, MARK_PERCENT, MARK_LEFT_SHIFT}
+use Rattle.c_lexer.specs.declared.mark.TheConstants.{MARK_RIGHT_SHIFT, MARK_LESS, MARK_GREATER}
+use Rattle.c_lexer.specs.declared.mark.TheConstants.{MARK_LESS_EQUAL, MARK_GREATER_EQUAL}
+use Rattle.c_lexer.specs.declared.mark.TheConstants.{MARK_EQUAL_EQUAL, MARK_NOT_EQUAL, MARK_CARET}
+use Rattle.c_lexer.specs.declared.mark.TheConstants.{MARK_BAR, MARK_AND_AND, MARK_OR_OR}
+use Rattle.c_lexer.specs.declared.mark.TheConstants.{MARK_QUESTION, MARK_COLON, MARK_SEMICOLON}
+use Rattle.c_lexer.specs.declared.mark.TheConstants.{MARK_ELLIPSIS, MARK_EQUAL, MARK_STAR_EQUAL}
+use Rattle.c_lexer.specs.declared.mark.TheConstants.{MARK_SLASH_EQUAL, MARK_PERCENT_EQUAL}
+use Rattle.c_lexer.specs.declared.mark.TheConstants.{MARK_PLUS_EQUAL, MARK_MINUS_EQUAL}
+use Rattle.c_lexer.specs.declared.mark.TheConstants.{MARK_LEFT_SHIFT_EQUAL, MARK_RIGHT_SHIFT_EQUAL}
+use Rattle.c_lexer.specs.declared.mark.TheConstants.{MARK_AMPERSAND_EQUAL, MARK_CARET_EQUAL}
+use Rattle.c_lexer.specs.declared.mark.TheConstants.{MARK_BAR_EQUAL, MARK_COMMA}
 use Rattle.c_lexer.specs.Entries.{Entry, spelling, alternative, numbers_of}
 use Rattle.c_lexer.specs.Bytes.{percent_sign, colon}
 use Rattle.c_lexer.specs.Comments.{IsPair, BeginsComment}
