@@ -7,7 +7,7 @@ use Rattle.cpg_schema.specs.declared.edge_kind.EdgeKind.TheVariants.{Ast}
 use Rattle.cpg_schema.specs.Graph.{PlainEdge, PlainGraph}
 use Rattle.cpg_schema.specs.Deltas.{PlainDelta, NewEdge, applied, added_edge}
 use Rattle.cpg_schema.specs.Sequence.{seq}
-use Rattle.cpg_schema.specs.Shape.{IsAstEdgeAt, IsAbove, child as child_of, below as further, IsShaped}
+use Rattle.cpg_schema.specs.Shape.{IsAstEdgeAt, IsAbove, child as child_of, descendant, IsShaped}
 use Rattle.graph_delta.proofs.Sequencing.{seq_keeps}
 
 all_at : (P : PlainEdge → Type 0) (edges : List PlainEdge) → All P edges → (position : ℕ) (edge : PlainEdge) → slice_get edges position ≡ Some edge → P edge
@@ -27,8 +27,8 @@ module _ (more : List PlainEdge) (others : All (λ (edge : PlainEdge). ¬ (edge.
 
   above_in_front : (edges : List PlainEdge) (ancestor node : ℕ) → IsAbove (edges ++ more) ancestor node → IsAbove edges ancestor node
   above_in_front edges ancestor _ (child_of position node at) = child_of position node (ast_in_front edges position ancestor node at)
-  above_in_front edges ancestor _ (further position parent node above at) =
-      further position parent node (above_in_front edges ancestor parent above) (ast_in_front edges position parent node at)
+  above_in_front edges ancestor _ (descendant position parent node above at) =
+      descendant position parent node (above_in_front edges ancestor parent above) (ast_in_front edges position parent node at)
 
 -- a shaped graph with a delta that adds no AST edge
 shaped_more : (graph : PlainGraph) (delta : PlainDelta) → All (λ (edge : NewEdge). ¬ (edge.kind ≡ Ast)) delta.edges → IsShaped graph → IsShaped (applied graph delta)

@@ -15,10 +15,10 @@ use std::alloc::{AllocError, Global};
 /// A pass adds to a graph in parts, as one for each file or method. Each part sees the graph as it
 /// was at the start, and not what other parts add, so parts can be made in any order.
 ///
-/// What a pass means is said of the plain graph, by four members. `takes`: the graphs that it may be
-/// given. `parts_of`: how many parts it has. `delta_of`: what a part adds. `is_ready`: what serves
-/// all parts of a graph, as its index; it holds numbers of names, so it is said of the graph as it
-/// is kept.
+/// What a pass means is said of the plain graph, by four members. `takes`: the graphs that it may
+/// be given. `parts_of`: how many parts it has. `delta_of`: what a part adds. `is_ready`: what
+/// serves all parts of a graph, as its index; it holds numbers of names, so it is said of the
+/// graph as it is kept.
 ///
 /// A pass promises two laws of every graph that it takes, whatever the caps are. `fits`: the delta
 /// of each part fits the graph after the parts before it, so `apply` may be called. `shapes`: the

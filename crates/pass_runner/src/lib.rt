@@ -1,0 +1,8 @@
+//! Runs a pass: the deltas of its parts are made from the graph as it was, and applied in order.
+#![tactic(auto)]
+
+mod runner;
+#[cfg(test)]
+mod tests;
+
+pub use runner::run_pass_one;
