@@ -1,0 +1,9 @@
+pub mod Sizes
+pub mod Growing
+pub mod Composing
+pub mod Allowing
+pub mod Fitting
+pub mod Rising
+pub mod Shaping
+pub mod Setting
+pub mod Hanging

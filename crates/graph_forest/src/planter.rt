@@ -1,6 +1,6 @@
 //! A planter writes down the delta of a forest.
 
-ghost use Rattle.std.specs.Prelude.{◌≡◌, ◌+◌, ◌<◌, ◌∷◌, ◌++◌, [], Some, length, OnOk};
+ghost use Rattle.std.specs.Prelude.{◌≡◌, ◌<◌, ◌++◌, [], Some, length, OnOk, IfOk};
 ghost use Rattle.cpg_schema.specs.Deltas.{empty_delta};
 ghost use Rattle.graph_forest.specs.Forest.{leaf, edges_to};
 ghost use Rattle.graph_forest.specs.Planting.{Enters, Leaves, Plants};
@@ -23,7 +23,7 @@ use std::marker::Model;
 #[derive(Drop)]
 pub struct Planter {
     delta: Delta,
-    open: Vec<u64>,
+    opened: Vec<u64>,
 }
 
 impl Model for Planter {
@@ -34,10 +34,10 @@ impl Model for Planter {
     ghost Value = { Planting };
 
     ghost view = { λ planter.
-        record { delta = planter.delta; opened = reverse planter.open.items } };
+        record { delta = planter.delta; opened = reverse planter.opened.items } };
 
     ghost invariant = { λ planter.
-        All (λ position. position < length planter.delta.nodes) planter.open.items };
+        All (λ position. position < length planter.delta.nodes) planter.opened.items };
 }
 
 impl Planter {
@@ -47,7 +47,7 @@ impl Planter {
     {
         Planter {
             delta: Delta::new(graph),
-            open: Vec::new(alloc),
+            opened: Vec::new(alloc),
         }
     }
 
@@ -63,7 +63,7 @@ impl Planter {
         ensures { OnOk result (Enters self.old self.new hang (plain_node node.now)) }
     {
         let position = self.plant(hang, node)?;
-        self.open.push(position)?;
+        self.opened.push(position)?;
         Ok(())
     }
 
@@ -71,7 +71,7 @@ impl Planter {
     pub fn leave(&mut self)
         ensures { Leaves self.old self.new }
     {
-        self.open.pop();
+        self.opened.pop();
     }
 
     /// Plants a node without children.
@@ -96,7 +96,7 @@ impl Planter {
             (position ≡ length self.old.delta.nodes) × (position < length self.new.delta.nodes)) }
     {
         let position = add_node(&mut self.delta, node)?;
-        if let Some(parent) = self.open.last() {
+        if let Some(parent) = self.opened.last() {
             hang_from(&mut self.delta, *parent, hang, position)?;
         }
         Ok(position)
@@ -110,6 +110,7 @@ fn hang_from(delta: &mut Delta, parent: u64, hang: Hang, child: u64) -> Result<(
     ensures ok { OnOk result (delta.new ≡ record delta.old {
       edges = delta.old.edges ++ edges_to (Some parent) hang child;
     }) }
+    ensures count { length delta.new.nodes ≡ length delta.old.nodes }
 {
     delta.edge(End::New(parent), EdgeKind::Ast, End::New(child), b"")?;
     match hang {

@@ -1,6 +1,6 @@
 //! A node is added to a delta with its properties.
 
-ghost use Rattle.std.specs.Prelude.{◌≡◌, ◌<◌, ◌∷◌, ◌++◌, [], IsTrue, not, length, OnOk, IfOk};
+ghost use Rattle.std.specs.Prelude.{◌≡◌, ◌<◌, ◌≤◌, ◌∷◌, ◌++◌, [], IsTrue, not, length, OnOk, IfOk};
 ghost use Rattle.std.specs.Option.{option_copied};
 ghost use Rattle.cpg_schema.specs.Properties.{is_number_key};
 ghost use Rattle.graph_forest.specs.Nodes.{plain_node, text_at, number_at};
@@ -15,6 +15,7 @@ pub(crate) fn add_node(delta: &mut Delta, node: &NewNode<'_>) -> Result<u64, All
     ensures ok { OnOk result (delta.new ≡
         record delta.old { nodes = delta.old.nodes ++ plain_node node.now ∷ [] }) }
     ensures position { IfOk result (λ position. position ≡ length delta.old.nodes) }
+    ensures count { length delta.old.nodes ≤ length delta.new.nodes }
 {
     let position = delta.node(node.label)?;
     add_text(delta, position, Key::Name, node.name)?;
