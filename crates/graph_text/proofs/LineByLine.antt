@@ -1,10 +1,12 @@
 -- The lines of a list, one after the other.
 use Rattle.std.proofs.Common.{◌≡◌, ℕ, ◌+◌, zero, suc, List, [], ◌∷◌, ◌++◌, take, get_or, Some, sym, ◌∙◌, ap, append_assoc, add-one, add-zero, zero-add, arith}
-use Rattle.std.specs.Prelude.{flat_map, slice_get}
+use Rattle.std.specs.Prelude.{flat_map, map, slice_get}
+use Rattle.std.specs.Option.{option_map}
 use Rattle.std.proofs.Math.Seq.{take-suc}
 use Rattle.std.proofs.lemmas.List.{append-nil}
 use Rattle.std.proofs.lemmas.Grind.{flat_map-append}
-use Rattle.std.proofs.lemmas.Option.{slice_get_within, get_or_from_slice_get}
+use Rattle.std.proofs.lemmas.Option.{slice_get-map, slice_get_within, get_or_from_slice_get}
+use Rattle.cpg_schema.specs.declared.label.Label.{Label}
 use Rattle.cpg_schema.specs.Graph.{PlainNode}
 use Rattle.cpg_schema.specs.Lines.{node_line, node_lines}
 
@@ -32,3 +34,14 @@ pub node_lines-take-one : (at : ℕ) (nodes : List PlainNode) (node : PlainNode)
 node_lines-take-one at nodes node here =
     ap (λ n. node_lines 0 (take n nodes)) (add-one at) ∙ node_lines-take-suc 0 at nodes node here
     ∙ ap (λ n. node_lines 0 (take at nodes) ++ node_line n node) (zero-add at)
+
+-- The label of a node that is known.
+pub label-of : (nodes : List PlainNode) (id : ℕ) (node : PlainNode) (label : Label) → slice_get nodes id ≡ Some node →
+    option_map (λ (node : PlainNode). node.label) (slice_get nodes id) ≡ Some label → label ≡ node.label
+label-of nodes id node label here is =
+    let same : Some node.label ≡ Some label = rw here at is in
+    cc
+
+-- The list where each item is changed has at a position what the item there becomes.
+pub slice_get-of-map : {X Y : Type 0} (f : X → Y) (xs : List X) (at : ℕ) (x : X) → slice_get xs at ≡ Some x → slice_get (map f xs) at ≡ Some (f x)
+slice_get-of-map {X} {Y} f xs at x here = slice_get-map f xs at ∙ ap (option_map f) here

@@ -1,4 +1,3 @@
 -- What contracts of this crate say, in the order of reading.
 pub mod Printing
-pub mod Views
 pub mod LineParts

@@ -2,15 +2,13 @@
 //! memory.
 #![tactic(auto)]
 
-mod dump;
+mod graph;
 mod line;
 mod printer;
 mod properties;
 #[cfg(test)]
 mod tests;
 mod value;
-mod views;
 
-pub use dump::print_graph;
+pub use graph::dump;
 pub use line::{LinePart, print_line};
-pub use views::{EdgeView, GraphView, NodeView};

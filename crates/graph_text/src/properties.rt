@@ -1,49 +1,53 @@
 //! The properties of a node.
-ghost use Rattle.std.specs.Prelude.{◌≡◌};
-ghost use Rattle.std.specs.Option.{option_copied};
+ghost use Rattle.std.specs.Prelude.{◌≡◌, ◌<◌, Some, length, option_and_then, slice_get};
+ghost use Rattle.cpg_schema.specs.Graph.{PlainNode};
+ghost use Rattle.cpg_schema.specs.Properties.{text_of, number_of};
 ghost use Rattle.cpg_schema.specs.Lines.{key_text, text_property, number_property, properties_text};
 ghost use Rattle.graph_text.specs.Printing.{Prints};
-ghost use Rattle.graph_text.specs.Views.{plain_node};
 
 use crate::printer::Printer;
-use crate::views::NodeView;
 use cpg_schema::Key;
+use graph_store::Graph;
 use joern_io::Sink;
 
 impl Printer {
     /// Prints the properties of a node, in the order of the keys.
-    pub(crate) fn properties<S: Sink>(&mut self, sink: &mut S, node: &NodeView<'_>)
-        ensures { Prints (S.state sink.old, self.old) (S.state sink.new, self.new)
-            (properties_text (plain_node node.now)) }
+    pub(crate) fn properties<S: Sink>(&mut self, sink: &mut S, graph: &Graph, id: u32)
+        requires inside { id < length graph.now.nodes }
+        ensures { (node : PlainNode) → slice_get graph.now.nodes id ≡ Some node →
+            Prints (S.state sink.old, self.old) (S.state sink.new, self.new)
+            (properties_text node) }
     {
-        self.text_property(sink, Key::Name, node.name);
-        self.text_property(sink, Key::Code, node.code);
-        self.text_property(sink, Key::Filename, node.filename);
-        self.number_property(sink, Key::LineNumber, node.line_number);
-        self.number_property(sink, Key::Order, node.order);
-        self.number_property(sink, Key::ArgumentIndex, node.argument_index);
-        self.text_property(sink, Key::TypeFullName, node.type_full_name);
-        self.text_property(sink, Key::ControlStructureType, node.control_structure_type);
-        self.text_property(sink, Key::Linkage, node.linkage);
+        self.text_property(sink, graph, id, Key::Name);
+        self.text_property(sink, graph, id, Key::Code);
+        self.text_property(sink, graph, id, Key::Filename);
+        self.number_property(sink, graph, id, Key::LineNumber);
+        self.number_property(sink, graph, id, Key::Order);
+        self.number_property(sink, graph, id, Key::ArgumentIndex);
+        self.text_property(sink, graph, id, Key::TypeFullName);
+        self.text_property(sink, graph, id, Key::ControlStructureType);
+        self.text_property(sink, graph, id, Key::Linkage);
     }
 
-    /// Prints a property whose value is a text, if it is there.
-    fn text_property<S: Sink>(&mut self, sink: &mut S, key: Key, value: Option<&[u8]>)
+    /// Prints the text that a node has of this key, if it has one.
+    fn text_property<S: Sink>(&mut self, sink: &mut S, graph: &Graph, id: u32, key: Key)
+        requires inside { id < length graph.now.nodes }
         ensures { Prints (S.state sink.old, self.old) (S.state sink.new, self.new)
-            (text_property key (option_copied value.entry)) }
+            (text_property key (option_and_then (text_of key) (slice_get graph.now.nodes id))) }
     {
-        if let Some(bytes) = value {
+        if let Some(bytes) = graph.text(id, key) {
             self.key(sink, key);
             self.value(sink, bytes);
         }
     }
 
-    /// Prints a property whose value is a number, if it is there.
-    fn number_property<S: Sink>(&mut self, sink: &mut S, key: Key, value: Option<u32>)
+    /// Prints the number that a node has of this key, if it has one.
+    fn number_property<S: Sink>(&mut self, sink: &mut S, graph: &Graph, id: u32, key: Key)
+        requires inside { id < length graph.now.nodes }
         ensures { Prints (S.state sink.old, self.old) (S.state sink.new, self.new)
-            (number_property key value) }
+            (number_property key (option_and_then (number_of key) (slice_get graph.now.nodes id))) }
     {
-        if let Some(n) = value {
+        if let Some(n) = graph.number(id, key) {
             self.key(sink, key);
             self.number(sink, n);
         }

@@ -1,107 +1,197 @@
 //! The spelling of lines: printed text, and each public call once.
-ghost use Rattle.std.specs.Prelude.{◌≡◌, [], ◌∷◌, None, Some, codes};
-ghost use Rattle.cpg_schema.specs.declared.label.Label.TheVariants as label;
-ghost use Rattle.cpg_schema.specs.declared.edge_kind.EdgeKind.TheVariants as edge_kind;
+ghost use Rattle.std.specs.Prelude.{◌≡◌, ◌<◌, [], length, IfOk, IfSome};
+ghost use Rattle.cpg_schema.specs.Properties.{is_number_key};
+ghost use Rattle.cpg_schema.specs.Fitting.{Fits};
+ghost use Rattle.graph_store.specs.Stored.{plain};
 
-use crate::{EdgeView, GraphView, LinePart, NodeView, print_graph, print_line};
-use cpg_schema::{EdgeKind, Label};
+use crate::{LinePart, dump, print_line};
+use cpg_schema::{Caps, EdgeKind, End, Key, Label, allows};
+use edge_index::index_of;
+use graph_store::{Delta, Graph, apply};
 use joern_io::Tape;
+use std::alloc::AllocError;
+use std::hash::RandomState;
 use std::test::Fail;
 
-/// Two nodes that have every property between them, and two edges: one with a variable.
-#[derive(Clone, Copy, Debug)]
-struct Sample;
+/// The value of a property.
+#[derive(Clone, Copy)]
+enum Value {
+    Text(&'static [u8]),
+    Number(u32),
+}
 
-impl GraphView for Sample {
-    ghost nodes = { λ _.
-        record {
-          label = label.ControlStructure;
-          name = Some (codes "L");
-          code = None;
-          filename = None;
-          line_number = Some 4294967295;
-          order = Some 2;
-          argument_index = None;
-          type_full_name = None;
-          control_structure_type = Some (codes "GOTO");
-          linkage = None;
-        } ∷ record {
-          label = label.Method;
-          name = None;
-          code = Some (codes "1 %");
-          filename = Some (codes "a.c");
-          line_number = None;
-          order = None;
-          argument_index = Some 0;
-          type_full_name = Some (codes "int");
-          control_structure_type = None;
-          linkage = Some (codes "internal");
-        } ∷ [] };
+/// The nodes by their numbers, each with its line. Node 2 has every key, and gets them in another
+/// order.
+const NODES: [(Label, &[(Key, Value)], &str); 9] = [
+    (
+        Label::File,
+        &[(Key::Name, Value::Text(b""))],
+        "node 0 FILE NAME=\n",
+    ),
+    (Label::NamespaceBlock, &[], "node 1 NAMESPACE_BLOCK\n"),
+    (
+        Label::Method,
+        &[
+            (Key::Linkage, Value::Text(b"internal")),
+            (Key::ControlStructureType, Value::Text(b"GOTO")),
+            (Key::TypeFullName, Value::Text(b"int")),
+            (Key::ArgumentIndex, Value::Number(0)),
+            (Key::Order, Value::Number(2)),
+            (Key::LineNumber, Value::Number(u32::MAX)),
+            (Key::Filename, Value::Text(b"a.c")),
+            (Key::Code, Value::Text(b"1 %")),
+            (Key::Name, Value::Text(b"f")),
+        ],
+        "node 2 METHOD NAME=f CODE=1%20%25 FILENAME=a.c LINE_NUMBER=4294967295 ORDER=2 \
+        ARGUMENT_INDEX=0 TYPE_FULL_NAME=int CONTROL_STRUCTURE_TYPE=GOTO LINKAGE=internal\n",
+    ),
+    (
+        Label::MethodParameterIn,
+        &[(Key::Order, Value::Number(1))],
+        "node 3 METHOD_PARAMETER_IN ORDER=1\n",
+    ),
+    (
+        Label::MethodParameterOut,
+        &[],
+        "node 4 METHOD_PARAMETER_OUT\n",
+    ),
+    (Label::ControlStructure, &[], "node 5 CONTROL_STRUCTURE\n"),
+    (Label::Call, &[], "node 6 CALL\n"),
+    (
+        Label::Identifier,
+        &[(Key::Code, Value::Text(b"x"))],
+        "node 7 IDENTIFIER CODE=x\n",
+    ),
+    (Label::TypeNode, &[], "node 8 TYPE\n"),
+];
 
-    ghost edges = { λ _.
-        record { from = 0; kind = edge_kind.Ast; to = 1; variable = [] }
-        ∷ record { from = 1; kind = edge_kind.ReachingDef; to = 0; variable = codes "x" } ∷ [] };
+/// The edges in the order of printing, each with its line. They are added from the last to the
+/// first.
+const EDGES: [(u32, EdgeKind, u32, &[u8], &str); 12] = [
+    (0, EdgeKind::Ast, 1, b"", "edge 0 AST 1\n"),
+    (2, EdgeKind::SourceFile, 0, b"", "edge 2 SOURCE_FILE 0\n"),
+    (2, EdgeKind::Contains, 6, b"", "edge 2 CONTAINS 6\n"),
+    (2, EdgeKind::Cfg, 6, b"", "edge 2 CFG 6\n"),
+    (3, EdgeKind::ParameterLink, 4, b"", "edge 3 PARAMETER_LINK 4\n"),
+    (3, EdgeKind::EvalType, 8, b"", "edge 3 EVAL_TYPE 8\n"),
+    (
+        3,
+        EdgeKind::ReachingDef,
+        7,
+        b"",
+        "edge 3 REACHING_DEF 7 VARIABLE=\n",
+    ),
+    (
+        3,
+        EdgeKind::ReachingDef,
+        7,
+        b"x y",
+        "edge 3 REACHING_DEF 7 VARIABLE=x%20y\n",
+    ),
+    (5, EdgeKind::Condition, 6, b"", "edge 5 CONDITION 6\n"),
+    (6, EdgeKind::Argument, 7, b"", "edge 6 ARGUMENT 7\n"),
+    (6, EdgeKind::Call, 2, b"", "edge 6 CALL 2\n"),
+    (7, EdgeKind::Ref, 3, b"", "edge 7 REF 3\n"),
+];
 
-    fn node_count(&self) -> u32 {
-        2
-    }
-
-    fn node(&self, id: u32) -> NodeView<'_> {
-        if id == 0 {
-            NodeView {
-                name: Some(b"L"),
-                line_number: Some(u32::MAX),
-                order: Some(2),
-                control_structure_type: Some(b"GOTO"),
-                ..NodeView::bare(Label::ControlStructure)
-            }
-        } else {
-            NodeView {
-                code: Some(b"1 %"),
-                filename: Some(b"a.c"),
-                argument_index: Some(0),
-                type_full_name: Some(b"int"),
-                linkage: Some(b"internal"),
-                ..NodeView::bare(Label::Method)
-            }
-        }
-    }
-
-    fn edge_count(&self) -> u32 {
-        2
-    }
-
-    fn edge(&self, position: u32) -> EdgeView<'_> {
-        if position == 0 {
-            EdgeView {
-                from: 0,
-                kind: EdgeKind::Ast,
-                to: 1,
-                variable: b"",
-            }
-        } else {
-            EdgeView {
-                from: 1,
-                kind: EdgeKind::ReachingDef,
-                to: 0,
-                variable: b"x",
-            }
-        }
+fn is_number(key: Key) -> bool
+    ensures { result ≡ is_number_key key }
+{
+    match key {
+        Key::LineNumber | Key::Order | Key::ArgumentIndex => true,
+        _ => false,
     }
 }
 
-/// The lines of the sample.
-const LINES: &str =
-    "node 0 CONTROL_STRUCTURE NAME=L LINE_NUMBER=4294967295 ORDER=2 CONTROL_STRUCTURE_TYPE=GOTO\n\
-    node 1 METHOD CODE=1%20%25 FILENAME=a.c ARGUMENT_INDEX=0 TYPE_FULL_NAME=int LINKAGE=internal\n\
-    edge 0 AST 1\n\
-    edge 1 REACHING_DEF 0 VARIABLE=x\n";
+/// Sets a property at new node 0, where its value has the form that the key asks for.
+fn set(delta: &mut Delta, key: Key, value: Value) -> Result<(), AllocError>
+    requires one { length delta.old.nodes ≡ 1 }
+    ensures nodes { length delta.new.nodes ≡ 1 }
+    ensures edges { delta.new.edges ≡ delta.old.edges }
+    ensures settings { delta.new.settings ≡ delta.old.settings }
+{
+    match value {
+        Value::Text(text) if !is_number(key) => delta.set_text(End::New(0), key, text),
+        Value::Number(number) if is_number(key) => delta.set_number(End::New(0), key, number),
+        _ => Ok(()),
+    }
+}
+
+/// The delta of one node.
+fn node_delta(
+    graph: &Graph,
+    label: Label,
+    properties: &[(Key, Value)],
+) -> Result<Delta, AllocError>
+    ensures { IfOk result (Fits (plain graph.now)) }
+{
+    let mut delta = Delta::new(graph);
+    delta.node(label)?;
+    for (key, value) in properties {
+        set(&mut delta, *key, *value)?;
+    }
+    Ok(delta)
+}
+
+/// The delta of one edge, where the schema allows it.
+fn edge_delta(
+    graph: &Graph,
+    from: u32,
+    kind: EdgeKind,
+    to: u32,
+    variable: &[u8],
+) -> Result<Option<Delta>, AllocError>
+    ensures { IfOk result (λ made. IfSome made (Fits (plain graph.now))) }
+{
+    if from >= graph.len() {
+        return Ok(None);
+    }
+    if to >= graph.len() {
+        return Ok(None);
+    }
+    if !allows(kind, graph.node(from), graph.node(to)) {
+        return Ok(None);
+    }
+    let mut delta = Delta::new(graph);
+    match kind {
+        EdgeKind::ReachingDef => delta.edge(End::Old(from), kind, End::Old(to), variable)?,
+        other => delta.edge(End::Old(from), other, End::Old(to), b"")?,
+    }
+    Ok(Some(delta))
+}
+
+/// The graph of all these nodes and edges.
+fn graph_of_all(rt: &HostRuntime) -> Result<Graph, Fail> {
+    let caps = Caps {
+        nodes: 9,
+        edges: 12,
+    };
+    let mut graph = Graph::new(rt.alloc(), caps, RandomState::new(rt)?)?;
+    for (label, properties, _) in NODES {
+        let delta = node_delta(&graph, label, properties)?;
+        apply(&mut graph, &delta)?;
+    }
+    for (from, kind, to, variable, _) in EDGES.iter().rev().copied() {
+        let delta = edge_delta(&graph, from, kind, to, variable)?;
+        apply(&mut graph, &delta.ok_or("the schema allows no such edge")?)?;
+    }
+    Ok(graph)
+}
 
 #[test]
 fn a_graph_is_printed_node_by_node_and_edge_by_edge(rt: HostRuntime) -> Result<(), Fail> {
+    let graph = graph_of_all(&rt)?;
+    let index = index_of(rt.alloc(), &graph)?;
     let mut tape = Tape::new(rt.alloc(), 4096, 4096, Vec::new(rt.alloc()))?;
-    assert_eq!(rt; print_graph(&Sample, &mut tape), Ok(()));
-    assert_eq!(rt; tape.took(), LINES.as_bytes());
+    assert_eq!(rt; dump(&graph, &index, &mut tape), Ok(()));
+    let mut lines = Vec::new(rt.alloc());
+    for (_, _, line) in NODES {
+        lines.extend_from_slice(line.as_bytes())?;
+    }
+    for (_, _, _, _, line) in EDGES {
+        lines.extend_from_slice(line.as_bytes())?;
+    }
+    assert_eq!(rt; tape.took(), lines.as_slice());
     Ok(())
 }
 

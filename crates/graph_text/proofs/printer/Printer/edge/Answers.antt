@@ -6,4 +6,4 @@ returns g c =
     Prints-then (Prints-then (Prints-then (Prints-then (Prints-then (Prints-then
     (Prints-then c.text.ensures c.number.ensures) c.text-2.ensures)
     (rw c.name.ensures at c.verbatim.ensures)) c.text-3.ensures) c.number-2.ensures)
-    c.variable.ensures) c.text-4.ensures
+    (rw c.variable_name.ensures at c.variable.ensures)) c.text-4.ensures

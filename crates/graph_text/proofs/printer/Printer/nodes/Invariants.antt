@@ -7,4 +7,4 @@ use Rattle.graph_text.proofs.printer.Printer.nodes.Given as goal
 abbrev pub invariant-loop-id : goal.invariant-loop-id
 invariant-loop-id g l =
     Prints (g.S.Sink.state l.fn.sink, l.fn.self) (g.S.Sink.state l.sink, l.self)
-    (node_lines 0 (take l.id (g.G.GraphView.nodes l.graph)))
+    (node_lines 0 (take l.id l.graph.nodes))

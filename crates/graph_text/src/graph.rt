@@ -1,0 +1,98 @@
+//! The lines of a graph: its nodes, and then its edges.
+ghost use Rattle.std.specs.Prelude.{◌≡◌, ◌<◌, Some, flat_map, length, map, slice_get};
+ghost use Rattle.std.specs.Prelude.{OnOk, OnErr};
+ghost use Rattle.joern_io.specs.Sinks.{Takes, TakesPrefix};
+ghost use Rattle.cpg_schema.specs.Graph.{PlainNode};
+ghost use Rattle.cpg_schema.specs.Lines.{graph_lines, node_line, node_lines};
+ghost use Rattle.cpg_schema.specs.Lines.{edge_line, variable_text};
+ghost use Rattle.graph_store.specs.Stored.{plain, plain_edge};
+ghost use Rattle.edge_index.specs.Indexed.{IsIndexOf};
+ghost use Rattle.graph_text.specs.Printing.{Prints};
+
+use crate::printer::Printer;
+use cpg_schema::EdgeKind;
+use edge_index::Index;
+use graph_store::{Edge, Graph};
+use joern_io::{Failed, Sink};
+
+/// Prints the lines of a graph, of which this is the index. Takes no memory.
+///
+/// `Failed` comes only where the sink counted a fault in this call. Then it took a proper prefix of
+/// the lines.
+pub fn dump<S: Sink>(graph: &Graph, index: &Index, sink: &mut S) -> Result<(), Failed>
+    requires indexed { IsIndexOf graph.now index.now }
+    ensures ok { OnOk result
+        (Takes (S.state sink.old) (S.state sink.new) (graph_lines (plain graph.now))) }
+    ensures failed { OnErr result
+        (TakesPrefix (S.state sink.old) (S.state sink.new) (graph_lines (plain graph.now))) }
+{
+    let mut printer = Printer::new();
+    printer.nodes(sink, graph);
+    printer.edges(sink, graph, index.edges());
+    printer.finish(sink)
+}
+
+impl Printer {
+    /// Prints the lines of all nodes.
+    fn nodes<S: Sink>(&mut self, sink: &mut S, graph: &Graph)
+        ensures { Prints (S.state sink.old, self.old) (S.state sink.new, self.new)
+            (node_lines 0 graph.now.nodes) }
+    {
+        for id in 0..graph.len() {
+            self.node(sink, graph, id);
+        }
+    }
+
+    /// Prints the lines of these edges.
+    fn edges<S: Sink>(&mut self, sink: &mut S, graph: &Graph, edges: &[Edge])
+        ensures { Prints (S.state sink.old, self.old) (S.state sink.new, self.new)
+            (flat_map edge_line (map (plain_edge graph.now.names) edges.now)) }
+    {
+        for edge in edges {
+            self.edge(sink, graph, edge);
+        }
+    }
+
+    /// Prints the line of a node.
+    fn node<S: Sink>(&mut self, sink: &mut S, graph: &Graph, id: u32)
+        requires inside { id < length graph.now.nodes }
+        ensures { (node : PlainNode) → slice_get graph.now.nodes id ≡ Some node →
+            Prints (S.state sink.old, self.old) (S.state sink.new, self.new) (node_line id node) }
+    {
+        self.text(sink, b"node ");
+        self.number(sink, id);
+        self.text(sink, b" ");
+        self.verbatim(sink, graph.node(id).name());
+        self.properties(sink, graph, id);
+        self.text(sink, b"\n");
+    }
+
+    /// Prints the line of an edge.
+    fn edge<S: Sink>(&mut self, sink: &mut S, graph: &Graph, edge: &Edge)
+        ensures { Prints (S.state sink.old, self.old) (S.state sink.new, self.new)
+            (edge_line (plain_edge graph.now.names edge.now)) }
+    {
+        self.text(sink, b"edge ");
+        self.number(sink, edge.from);
+        self.text(sink, b" ");
+        self.verbatim(sink, edge.kind.name());
+        self.text(sink, b" ");
+        self.number(sink, edge.to);
+        self.variable(sink, edge.kind, graph.variable_name(edge.variable));
+        self.text(sink, b"\n");
+    }
+
+    /// Prints the variable of an edge, if it is one that has a variable.
+    fn variable<S: Sink>(&mut self, sink: &mut S, kind: EdgeKind, variable: &[u8])
+        ensures { Prints (S.state sink.old, self.old) (S.state sink.new, self.new)
+            (variable_text kind variable.now) }
+    {
+        match kind {
+            EdgeKind::ReachingDef => {
+                self.text(sink, b" VARIABLE=");
+                self.value(sink, variable);
+            }
+            _ => {}
+        }
+    }
+}
