@@ -4,8 +4,8 @@ use Rattle.std.proofs.lemmas.List.{append_assoc, map-append, take_more}
 use Rattle.cpg_schema.specs.Graph.{PlainNode}
 use Rattle.cpg_schema.specs.Deltas.{PlainDelta}
 use Rattle.graph_forest.specs.declared.hang.Hang.{Hang}
-use Rattle.graph_forest.specs.Forest.{Forest, none, tree, branch, leaf, beside, joined, with_forest}
-use Rattle.graph_forest.specs.Planting.{Planting, innermost, outer_of, Plants, Enters, Leaves}
+use Rattle.graph_forest.specs.Forest.{Forest, none, tree, branch, leaf, beside, joined, with_forest, planted, IsAllowed, IsPlanted}
+use Rattle.graph_forest.specs.Planting.{Planting, innermost, outer_of, Plants, Enters, Leaves, fresh}
 use Rattle.graph_forest.proofs.Growing.{with_none, with_beside, with_branch}
 
 pub plants_none : (a : Planting) → Plants a a none
@@ -30,8 +30,25 @@ plants_branch a b c d h n f e p l = record {
   opened = l.opened ∙ ap outer_of (p.opened ∙ e.opened);
 }
 
+-- A tree that is planted node by node, and what is planted after it.
+pub plants_branch_beside : (a b c d e : Planting) (h : Hang) (n : PlainNode) (f g : Forest) → Enters a b h n → Plants b c f → Leaves c d → Plants d e g →
+    Plants a e (beside (branch h n f) g)
+plants_branch_beside a b c d e h n f g enters p leaves q = plants_beside a d e (branch h n f) g (plants_branch a b c d h n f enters p leaves) q
+
 -- For a caller's goal: list this set.
-pub ruleset planting = (plants_none, plants_beside, plants_branch)
+pub ruleset planting = (plants_none, plants_beside, plants_branch, plants_branch_beside)
+
+-- What a planter has planted from the start on is its delta.
+pub plants_whole : (b : Planting) (f : Forest) → Plants fresh b f → b.delta ≡ planted f
+unfolding with_forest planted
+plants_whole b f p = p.delta
+
+pub plants_planted : (a b : Planting) (f : Forest) → a ≡ fresh → Plants a b f → IsAllowed f → IsPlanted b.delta
+plants_planted a b f start p allowed = record {
+  forest = f;
+  allowed = allowed;
+  is = plants_whole b f (subst (λ (x : Planting). Plants x b f) start p);
+}
 
 -- A tree and what comes after it.
 pub plants_tree : (a b c : Planting) (h : Hang) (n : PlainNode) (f g : Forest) → Plants a b (branch h n f) → Plants b c g → Plants a c (tree h n f g)

@@ -2,7 +2,7 @@
 -- whose children are not all there yet.
 use Rattle.std.specs.Prelude.{ℕ, ◌≡◌, List, [], ◌∷◌, length, Option, Some, None}
 use Rattle.cpg_schema.specs.Graph.{PlainNode}
-use Rattle.cpg_schema.specs.Deltas.{PlainDelta}
+use Rattle.cpg_schema.specs.Deltas.{PlainDelta, empty_delta}
 use Rattle.graph_forest.specs.declared.hang.Hang.{Hang}
 use Rattle.graph_forest.specs.Forest.{Forest, leaf, with_forest}
 
@@ -10,6 +10,10 @@ use Rattle.graph_forest.specs.Forest.{Forest, leaf, with_forest}
 pub record Planting : Type 0 where
   pub delta : PlainDelta
   pub opened : List ℕ
+
+-- The planter that has planted nothing.
+abbrev pub fresh : Planting
+fresh = record { delta = empty_delta; opened = [] }
 
 -- The innermost open node, from which the next one hangs.
 abbrev pub innermost : List ℕ → Option ℕ

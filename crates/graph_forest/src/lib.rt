@@ -7,6 +7,8 @@ pub mod laws;
 mod new_node;
 mod planter;
 mod properties;
+#[cfg(test)]
+mod tests;
 
 pub use hang::Hang;
 pub use new_node::NewNode;

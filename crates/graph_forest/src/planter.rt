@@ -1,9 +1,8 @@
 //! A planter writes down the delta of a forest.
 
 ghost use Rattle.std.specs.Prelude.{◌≡◌, ◌<◌, ◌++◌, [], Some, length, OnOk, IfOk};
-ghost use Rattle.cpg_schema.specs.Deltas.{empty_delta};
 ghost use Rattle.graph_forest.specs.Forest.{leaf, edges_to};
-ghost use Rattle.graph_forest.specs.Planting.{Enters, Leaves, Plants};
+ghost use Rattle.graph_forest.specs.Planting.{Enters, Leaves, Plants, fresh};
 ghost use Rattle.graph_forest.specs.Nodes.{plain_node};
 
 use crate::hang::Hang;
@@ -43,7 +42,7 @@ impl Model for Planter {
 impl Planter {
     /// A planter that has planted nothing, whose delta is to be of this graph.
     pub fn new(alloc: Global, graph: &Graph) -> Planter
-        ensures { result ≡ record { delta = empty_delta; opened = [] } }
+        ensures { result ≡ fresh }
     {
         Planter {
             delta: Delta::new(graph),

@@ -1,0 +1,85 @@
+//! A forest with each way to hang, beside the graph that its delta gives.
+
+ghost use Rattle.std.specs.Prelude.{◌≡◌, ◌∷◌, [], Some, codes, OnOk, IfOk};
+ghost use Rattle.cpg_schema.specs.declared.label.Label.TheVariants.{ControlStructure, Call};
+ghost use Rattle.cpg_schema.specs.declared.label.Label.TheVariants.{Identifier, Return, File};
+ghost use Rattle.cpg_schema.specs.Graph.{bare_node};
+ghost use Rattle.graph_forest.specs.declared.hang.Hang.TheVariants.{Plain, Argument, Condition};
+ghost use Rattle.graph_forest.specs.Forest.{beside, branch, leaf, IsPlanted};
+ghost use Rattle.graph_forest.specs.Planting.{Plants};
+
+use crate::{Hang, NewNode, Planter};
+use cpg_schema::{Caps, EdgeKind, Key, Label};
+use graph_delta::{Delta, apply};
+use graph_store::Graph;
+use std::alloc::{AllocError, Global};
+use std::hash::RandomState;
+use std::test::Fail;
+
+/// `if (f(x)) return;`, and a file.
+#[tactic(auto, using(crate::proofs::Composing::planting))]
+fn plant_if(planter: &mut Planter) -> Result<(), AllocError>
+    ensures { OnOk result (Plants planter.old planter.new (beside
+        (branch Plain (bare_node ControlStructure) (beside
+            (branch Condition (record (bare_node Call) { name = Some (codes "f") })
+                (leaf Argument (record (bare_node Identifier) { argument_index = Some 1 })))
+            (leaf Plain (bare_node Return))))
+        (leaf Plain (bare_node File)))) }
+{
+    planter.enter(Hang::Plain, &NewNode::bare(Label::ControlStructure))?;
+    let call = NewNode {
+        name: Some(b"f"),
+        ..NewNode::bare(Label::Call)
+    };
+    planter.enter(Hang::Condition, &call)?;
+    let argument = NewNode {
+        argument_index: Some(1),
+        ..NewNode::bare(Label::Identifier)
+    };
+    planter.leaf(Hang::Argument, &argument)?;
+    planter.leave();
+    planter.leaf(Hang::Plain, &NewNode::bare(Label::Return))?;
+    planter.leave();
+    planter.leaf(Hang::Plain, &NewNode::bare(Label::File))
+}
+
+fn if_delta(alloc: Global, graph: &Graph) -> Result<Delta, AllocError>
+    ensures { IfOk result IsPlanted }
+{
+    let mut planter = Planter::new(alloc, graph);
+    plant_if(&mut planter)?;
+    Ok(planter.finish())
+}
+
+#[test]
+fn each_way_to_hang_has_its_edges(rt: HostRuntime) -> Result<(), Fail> {
+    let caps = Caps { nodes: 5, edges: 5 };
+    let hashes = RandomState::new(&rt)?;
+    let mut graph = Graph::new(rt.alloc(), caps, hashes)?;
+    let delta = if_delta(rt.alloc(), &graph)?;
+    crate::laws::law_fits();
+    apply(&mut graph, &delta)?;
+    let labels = [
+        Label::ControlStructure,
+        Label::Call,
+        Label::Identifier,
+        Label::Return,
+        Label::File,
+    ];
+    assert_eq!(rt; graph.len(), 5);
+    for (id, want) in (0..graph.len()).zip(labels) {
+        assert_eq!(rt; graph.node(id), want, "at {id}");
+    }
+    let edges = [
+        (0, EdgeKind::Ast, 1),
+        (0, EdgeKind::Condition, 1),
+        (1, EdgeKind::Ast, 2),
+        (1, EdgeKind::Argument, 2),
+        (0, EdgeKind::Ast, 3),
+    ];
+    assert_eq!(rt; graph.edges().len(), 5);
+    for (edge, want) in graph.edges().iter().zip(edges) {
+        assert_eq!(rt; (edge.from, edge.kind, edge.to), want);
+    }
+    Ok(())
+}
