@@ -39,7 +39,8 @@ fn add_text(
 ) -> Result<(), AllocError>
     requires inside { position < length delta.old.nodes }
     requires form { IsTrue (not (is_number_key key)) }
-    ensures ok { OnOk result (delta.new ≡ text_at position key (option_copied value.entry) delta.old) }
+    ensures ok { OnOk result (delta.new ≡
+        text_at position key (option_copied value.entry) delta.old) }
     ensures count { length delta.new.nodes ≡ length delta.old.nodes }
 {
     match value {

@@ -17,7 +17,6 @@ use std::hash::RandomState;
 use std::test::Fail;
 
 /// `if (f(x)) return;`, and a file.
-#[tactic(auto, using(crate::proofs::Composing::planting))]
 fn plant_if(planter: &mut Planter) -> Result<(), AllocError>
     ensures { OnOk result (Plants planter.old planter.new (beside
         (branch Plain (bare_node ControlStructure) (beside
@@ -40,7 +39,8 @@ fn plant_if(planter: &mut Planter) -> Result<(), AllocError>
     planter.leave();
     planter.leaf(Hang::Plain, &NewNode::bare(Label::Return))?;
     planter.leave();
-    planter.leaf(Hang::Plain, &NewNode::bare(Label::File))
+    planter.leaf(Hang::Plain, &NewNode::bare(Label::File))?;
+    Ok(())
 }
 
 fn if_delta(alloc: Global, graph: &Graph) -> Result<Delta, AllocError>
