@@ -9,7 +9,7 @@ use cpg_schema::{Caps, EdgeKind, End, Key, Label, allows};
 use edge_index::index_of;
 use graph_store::{Delta, Graph, apply};
 use joern_io::Tape;
-use std::alloc::AllocError;
+use std::alloc::{AllocError, Global};
 use std::hash::RandomState;
 use std::test::Fail;
 
@@ -20,9 +20,15 @@ enum Value {
     Number(u32),
 }
 
+/// A node's label, its properties and its line.
+type Node = (Label, &'static [(Key, Value)], &'static str);
+
+/// An edge from a node to another, with its variable and its line.
+type Edge = (u32, EdgeKind, u32, &'static [u8], &'static str);
+
 /// The nodes by their numbers, each with its line. Node 2 has every key, and gets them in another
 /// order.
-const NODES: [(Label, &[(Key, Value)], &str); 9] = [
+static NODES: [Node; 9] = [
     (
         Label::File,
         &[(Key::Name, Value::Text(b""))],
@@ -67,12 +73,18 @@ const NODES: [(Label, &[(Key, Value)], &str); 9] = [
 
 /// The edges in the order of printing, each with its line. They are added from the last to the
 /// first.
-const EDGES: [(u32, EdgeKind, u32, &[u8], &str); 12] = [
+static EDGES: [Edge; 12] = [
     (0, EdgeKind::Ast, 1, b"", "edge 0 AST 1\n"),
     (2, EdgeKind::SourceFile, 0, b"", "edge 2 SOURCE_FILE 0\n"),
     (2, EdgeKind::Contains, 6, b"", "edge 2 CONTAINS 6\n"),
     (2, EdgeKind::Cfg, 6, b"", "edge 2 CFG 6\n"),
-    (3, EdgeKind::ParameterLink, 4, b"", "edge 3 PARAMETER_LINK 4\n"),
+    (
+        3,
+        EdgeKind::ParameterLink,
+        4,
+        b"",
+        "edge 3 PARAMETER_LINK 4\n",
+    ),
     (3, EdgeKind::EvalType, 8, b"", "edge 3 EVAL_TYPE 8\n"),
     (
         3,
@@ -118,11 +130,7 @@ fn set(delta: &mut Delta, key: Key, value: Value) -> Result<(), AllocError>
 }
 
 /// The delta of one node.
-fn node_delta(
-    graph: &Graph,
-    label: Label,
-    properties: &[(Key, Value)],
-) -> Result<Delta, AllocError>
+fn node_delta(graph: &Graph, label: Label, properties: &[(Key, Value)]) -> Result<Delta, AllocError>
     ensures { IfOk result (Fits (plain graph.now)) }
 {
     let mut delta = Delta::new(graph);
@@ -160,37 +168,55 @@ fn edge_delta(
     Ok(Some(delta))
 }
 
-/// The graph of all these nodes and edges.
-fn graph_of_all(rt: &HostRuntime) -> Result<Graph, Fail> {
-    let caps = Caps {
-        nodes: 9,
-        edges: 12,
-    };
-    let mut graph = Graph::new(rt.alloc(), caps, RandomState::new(rt)?)?;
-    for (label, properties, _) in NODES {
-        let delta = node_delta(&graph, label, properties)?;
-        apply(&mut graph, &delta)?;
+fn add_nodes(graph: &mut Graph, nodes: &[Node]) -> Result<(), Fail> {
+    for (label, properties, _) in nodes {
+        let delta = node_delta(graph, *label, properties)?;
+        apply(graph, &delta)?;
     }
-    for (from, kind, to, variable, _) in EDGES.iter().rev().copied() {
-        let delta = edge_delta(&graph, from, kind, to, variable)?;
-        apply(&mut graph, &delta.ok_or("the schema allows no such edge")?)?;
+    Ok(())
+}
+
+fn add_edges(graph: &mut Graph, edges: &[Edge]) -> Result<(), Fail> {
+    for (from, kind, to, variable, _) in edges.iter().rev() {
+        let delta = edge_delta(graph, *from, *kind, *to, variable)?;
+        apply(graph, &delta.ok_or("the schema allows no such edge")?)?;
     }
-    Ok(graph)
+    Ok(())
+}
+
+/// The lines of these nodes and edges.
+fn lines(alloc: Global, nodes: &[Node], edges: &[Edge]) -> Result<Vec<u8>, AllocError> {
+    let mut lines = Vec::new(alloc);
+    for (_, _, line) in nodes {
+        lines.extend_from_slice(line.as_bytes())?;
+    }
+    for (_, _, _, _, line) in edges {
+        lines.extend_from_slice(line.as_bytes())?;
+    }
+    Ok(lines)
+}
+
+fn all_nodes() -> &'static [Node] {
+    &NODES
+}
+
+fn all_edges() -> &'static [Edge] {
+    &EDGES
 }
 
 #[test]
 fn a_graph_is_printed_node_by_node_and_edge_by_edge(rt: HostRuntime) -> Result<(), Fail> {
-    let graph = graph_of_all(&rt)?;
+    let caps = Caps {
+        nodes: 9,
+        edges: 12,
+    };
+    let mut graph = Graph::new(rt.alloc(), caps, RandomState::new(&rt)?)?;
+    add_nodes(&mut graph, all_nodes())?;
+    add_edges(&mut graph, all_edges())?;
     let index = index_of(rt.alloc(), &graph)?;
     let mut tape = Tape::new(rt.alloc(), 4096, 4096, Vec::new(rt.alloc()))?;
     assert_eq!(rt; dump(&graph, &index, &mut tape), Ok(()));
-    let mut lines = Vec::new(rt.alloc());
-    for (_, _, line) in NODES {
-        lines.extend_from_slice(line.as_bytes())?;
-    }
-    for (_, _, _, _, line) in EDGES {
-        lines.extend_from_slice(line.as_bytes())?;
-    }
+    let lines = lines(rt.alloc(), all_nodes(), all_edges())?;
     assert_eq!(rt; tape.took(), lines.as_slice());
     Ok(())
 }
