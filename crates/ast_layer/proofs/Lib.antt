@@ -1,8 +1,2 @@
-pub mod Sizes
-pub mod Steps
-pub mod SortedKeys
+pub mod Chains
 pub mod Children
-pub mod Reordering
-pub mod Room
-pub mod Moves
-pub mod Adding

@@ -1,11 +1,10 @@
--- In reading order: the file, the layer's nodes and edges, and what the code keeps.
+-- In reading order: the file, the nodes, the forest of each construct, and what the pass adds.
 pub mod Source
 pub mod Operators
 pub mod Grouping
+pub mod Ranks
 pub mod Nodes
-pub mod Edges
-pub mod Expressions
-pub mod SyntaxLayer
-pub mod Building
-pub mod Layer
-pub mod Room
+pub mod Forests
+pub mod Parts
+pub mod Allowed
+pub mod PassLaws

@@ -1,22 +1,15 @@
 -- The nodes of the syntax layer, with all their properties (Code Property Graph specification 1.1,
 -- layer AST).
-use Rattle.std.specs.Prelude.{ℕ, Option, Some, None, codes, take, slice_get}
+use Rattle.std.specs.Prelude.{ℕ, Option, Some, codes, take, slice_get}
 use Rattle.cpg_schema.specs.declared.label.Label.TheVariants as label
 use Rattle.cpg_schema.specs.Graph.{PlainNode, bare_node}
 use Rattle.c_tree.specs.declared.tree.Prefixed.{Prefixed}
 use Rattle.c_tree.specs.declared.tree.BaseForm.{BaseForm}
 use Rattle.c_tree.specs.declared.tree.BaseForm.TheVariants as base_form
-use Rattle.ast_layer.specs.declared.node.Rank.{Rank}
+use Rattle.ast_layer.specs.declared.rank.Rank.{Rank}
+use Rattle.ast_layer.specs.Ranks.{argument_index}
 use Rattle.ast_layer.specs.Source.{File, token_of, presumed_line_at, presumed_file_at, spelling_at}
 use Rattle.ast_layer.specs.Operators.{operator_name}
-
--- The rank of a child that is no argument: its ORDER alone.
-abbrev pub child : ℕ → Rank
-child order = record { order = order; argument_index = None }
-
--- The rank of an argument: its ORDER, which is its ARGUMENT_INDEX too.
-abbrev pub argument : ℕ → Rank
-argument order = record { order = order; argument_index = Some order }
 
 -- The longest type text, in bytes.
 abbrev pub type_text_limit : ℕ
@@ -74,7 +67,7 @@ call_node file operator first rank = record (bare_node label.Call) {
   name = operator_name (token_of file (Some operator));
   line_number = Some (presumed_line_at file first);
   order = Some rank.order;
-  argument_index = rank.argument_index;
+  argument_index = argument_index rank;
 }
 
 -- The IDENTIFIER or the LITERAL that a primary expression is.
@@ -83,13 +76,13 @@ form_node file (base_form.Name token) rank = record (bare_node label.Identifier)
   name = Some (spelling_at file (Some token));
   line_number = Some (presumed_line_at file (Some token));
   order = Some rank.order;
-  argument_index = rank.argument_index;
+  argument_index = argument_index rank;
 }
 form_node file (base_form.Literal tokens) rank = record (bare_node label.Literal) {
   code = Some (spelling_at file (slice_get tokens 0));
   line_number = Some (presumed_line_at file (slice_get tokens 0));
   order = Some rank.order;
-  argument_index = rank.argument_index;
+  argument_index = argument_index rank;
 }
 
 -- The node of an operand.

@@ -29,8 +29,8 @@ presumed_of files place =
 -- The file that a source is: its kept tokens, and their presumed places.
 abbrev pub file_of : Source → File
 file_of source =
-    file source.name.now source.text.bytes.now (items_at source.tokens.now source.kept.now)
-    (map (presumed_of source.files.now) (items_at source.places.now source.kept.now))
+    file source.name source.bytes (items_at source.tokens source.kept)
+    (map (presumed_of source.places.files) (items_at source.places.places source.kept))
 
 -- The token of this number, if there is one.
 abbrev pub token_of : File → Option ℕ → Option Token

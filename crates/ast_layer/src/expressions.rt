@@ -1,15 +1,17 @@
-//! The layer of an expression: a `CALL` comes before its arguments.
+//! The forest of an expression: a CALL, whose children are its arguments.
 
-ghost use Rattle.std.specs.Prelude.{◌≡◌, ◌+◌, ◌≤◌, ◌∷◌, [], length, IfOk, OnOk};
+ghost use Rattle.std.specs.Prelude.{◌≡◌, OnOk};
+ghost use Rattle.graph_forest.specs.Forest.{leaf};
+ghost use Rattle.graph_forest.specs.Planting.{Plants};
+ghost use Rattle.ast_layer.specs.Source.{file_of};
 ghost use Rattle.ast_layer.specs.Grouping.{grouped_assign, grouped_binary, operand_token};
 ghost use Rattle.ast_layer.specs.Nodes.{operand_node};
-ghost use Rattle.ast_layer.specs.Expressions.{grouped_edges, grouped_nodes, grouped_size};
-ghost use Rattle.ast_layer.specs.Building.{Adds, adding, operands_nodes};
+ghost use Rattle.ast_layer.specs.Forests.{grouped_forest};
 
-use crate::builder::Builder;
-use crate::node::Rank;
-use crate::walk::MAX_NODES;
+use crate::rank::Rank;
+use crate::source::Source;
 use c_tree::{Assign, BaseForm, Binary, Prefixed};
+use graph_forest::Planter;
 use std::alloc::AllocError;
 
 /// The first token of an operand.
@@ -22,71 +24,42 @@ fn token_of(operand: &Prefixed) -> Option<u32>
     }
 }
 
-#[tactic(auto, using(crate::proofs::Adding::layer_steps))]
-impl<'s> Builder<'s> {
-    /// Adds the layer of an assignment expression.
-    pub(crate) fn assign(&mut self, assign: &Assign, rank: Rank) -> Result<(), AllocError>
-        requires room { length self.old.nodes + grouped_size (grouped_assign assign.now) ≤
-            MAX_NODES }
-        ensures { OnOk result (Adds self.old self.new
-            (grouped_nodes self.old.file rank (grouped_assign assign.now))
-            (grouped_edges (length self.old.nodes) (grouped_assign assign.now))) }
-    {
-        let rank = self.targets(assign, rank)?;
-        self.binary(&assign.value.last, rank)
-    }
-
-    /// Adds the assignments to the targets, each with its left side, and returns the rank of the
-    /// value that is assigned.
-    fn targets(&mut self, assign: &Assign, rank: Rank) -> Result<Rank, AllocError>
-        requires room { length self.old.nodes + grouped_size (grouped_assign assign.now) ≤
-            MAX_NODES }
-        ensures ok { IfOk result (λ after.
-            adding self.new
-            (grouped_nodes self.new.file after (grouped_binary assign.now.value.last))
-            (grouped_edges (length self.new.nodes) (grouped_binary assign.now.value.last)) ≡
-            adding self.old
-            (grouped_nodes self.old.file rank (grouped_assign assign.now))
-            (grouped_edges (length self.old.nodes) (grouped_assign assign.now))) }
-        ensures room { OnOk result (length self.new.nodes +
-            grouped_size (grouped_binary assign.now.value.last) ≤ MAX_NODES) }
+impl Source {
+    /// Plants an assignment expression: assignments are grouped to the right.
+    pub(crate) fn plant_assign(
+        &self,
+        planter: &mut Planter,
+        assign: &Assign,
+        rank: Rank,
+    ) -> Result<(), AllocError>
+        ensures { OnOk result (Plants planter.old planter.new
+            (grouped_forest (file_of self.now) rank (grouped_assign assign.now))) }
     {
         let targets = assign.targets.items();
         let mut rank = rank;
         for target in targets {
-            let call = self.count();
-            self.call(target.1, token_of(&target.0), rank)?;
-            self.arguments(call, call + 1, call + 2)?;
-            self.operand(&target.0, Rank::argument(1))?;
+            let call = self.call(target.1, token_of(&target.0), rank);
+            planter.enter(rank.hang, &call)?;
+            self.plant_operand(planter, &target.0, Rank::argument(1))?;
             rank = Rank::argument(2);
         }
-        Ok(rank)
+        self.plant_binary(planter, &assign.value.last, rank)?;
+        'leaving: for _ in targets {
+            planter.leave();
+        }
+        Ok(())
     }
 
-    /// Adds the layer of operands that are joined by operators, the last one outermost.
-    fn binary(&mut self, binary: &Binary, rank: Rank) -> Result<(), AllocError>
-        requires room { length self.old.nodes + grouped_size (grouped_binary binary.now) ≤
-            MAX_NODES }
-        ensures { OnOk result (Adds self.old self.new
-            (grouped_nodes self.old.file rank (grouped_binary binary.now))
-            (grouped_edges (length self.old.nodes) (grouped_binary binary.now))) }
-    {
-        let rank = self.operators(binary, rank)?;
-        self.operand(&binary.first, rank)?;
-        self.operands(binary.rest.items())
-    }
-
-    /// Adds the operators, and returns the rank of the first operand.
-    fn operators(&mut self, binary: &Binary, rank: Rank) -> Result<Rank, AllocError>
-        requires room { length self.old.nodes + grouped_size (grouped_binary binary.now) ≤
-            MAX_NODES }
-        ensures { IfOk result (λ after.
-            adding self.new
-            (operand_node self.new.file binary.now.first after ∷
-            operands_nodes self.new.file binary.now.rest) [] ≡
-            adding self.old
-            (grouped_nodes self.old.file rank (grouped_binary binary.now))
-            (grouped_edges (length self.old.nodes) (grouped_binary binary.now))) }
+    /// Plants operands that are joined by operators: sums are grouped to the left, so the last
+    /// operator is the outermost.
+    fn plant_binary(
+        &self,
+        planter: &mut Planter,
+        binary: &Binary,
+        rank: Rank,
+    ) -> Result<(), AllocError>
+        ensures { OnOk result (Plants planter.old planter.new
+            (grouped_forest (file_of self.now) rank (grouped_binary binary.now))) }
     {
         let first = token_of(&binary.first);
         let rest = binary.rest.items();
@@ -94,21 +67,29 @@ impl<'s> Builder<'s> {
         let mut left = rest.len();
         while left > 0 {
             left -= 1;
-            let call = self.count();
-            self.call(rest[left].0, first, rank)?;
-            self.arguments(call, call + 1, call + 2 + 2 * left as u32)?;
+            let call = self.call(rest[left].0, first, rank);
+            planter.enter(rank.hang, &call)?;
             rank = Rank::argument(1);
         }
-        Ok(rank)
-    }
-
-    /// Adds the right operands of a chain.
-    fn operands(&mut self, rest: &[(u32, Prefixed)]) -> Result<(), AllocError>
-        ensures { OnOk result (Adds self.old self.new (operands_nodes self.old.file rest.now) []) }
-    {
+        self.plant_operand(planter, &binary.first, rank)?;
         for next in rest {
-            self.operand(&next.1, Rank::argument(2))?;
+            self.plant_operand(planter, &next.1, Rank::argument(2))?;
+            planter.leave();
         }
         Ok(())
+    }
+
+    /// Plants an operand.
+    fn plant_operand(
+        &self,
+        planter: &mut Planter,
+        operand: &Prefixed,
+        rank: Rank,
+    ) -> Result<(), AllocError>
+        ensures { OnOk result (Plants planter.old planter.new
+            (leaf rank.hang (operand_node (file_of self.now) operand.now rank))) }
+    {
+        let node = self.operand(operand, rank);
+        planter.leaf(rank.hang, &node)
     }
 }

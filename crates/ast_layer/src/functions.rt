@@ -1,16 +1,16 @@
-//! The layer of a function: its `METHOD`, the `BLOCK` of its body and its `METHOD_RETURN`.
+//! The forest of a function: its METHOD, whose children are the BLOCK of its body and its
+//! METHOD_RETURN.
 
-ghost use Rattle.std.specs.Prelude.{◌≡◌, ◌+◌, ◌≤◌, ◌∷◌, length, slice_get, OnOk};
-ghost use Rattle.ast_layer.specs.Nodes.{block_node};
-ghost use Rattle.ast_layer.specs.Building.{Adds};
-ghost use Rattle.ast_layer.specs.SyntaxLayer.{children_edges, children_nodes, children_size};
-ghost use Rattle.ast_layer.specs.SyntaxLayer.{expressions, item_parts, name_token, type_token};
-ghost use Rattle.ast_layer.specs.SyntaxLayer.{function_edges, function_nodes, function_size};
+ghost use Rattle.std.specs.Prelude.{◌≡◌, ◌+◌, OnOk, IfOk};
+ghost use Rattle.graph_forest.specs.Planting.{Plants};
+ghost use Rattle.ast_layer.specs.Source.{file_of};
+ghost use Rattle.ast_layer.specs.Forests.{block_forest, children_forest, expressions, item_parts};
+ghost use Rattle.ast_layer.specs.Forests.{function_forest, name_token, type_token};
 
-use crate::builder::Builder;
-use crate::node::{Form, Node, Rank};
-use crate::walk::MAX_NODES;
+use crate::rank::Rank;
+use crate::source::Source;
 use c_tree::{Assign, Block, BlockItem, Core, Declarator, Item, Spec, Specs, StmtKind};
+use graph_forest::{Hang, Planter};
 use std::alloc::AllocError;
 
 /// The token of the name that a declarator declares.
@@ -43,96 +43,79 @@ fn parts_of(item: &BlockItem) -> &[Assign]
     }
 }
 
-#[tactic(auto, using(crate::proofs::Adding::layer_steps))]
-impl<'s> Builder<'s> {
-    /// Adds the layer of a function, which is a child of node 1.
-    pub(crate) fn function(&mut self, item: &Item, order: u32) -> Result<(), AllocError>
-        requires room { length self.old.nodes + function_size item.now ≤ MAX_NODES }
-        ensures { OnOk result (Adds self.old self.new
-            (function_nodes self.old.file order item.now)
-            (function_edges (length self.old.nodes) item.now)) }
+/// The ORDER of the next child. One that passes 32 bits is want of memory, as a node that does.
+pub(crate) fn next_order(order: u32) -> Result<u32, AllocError>
+    ensures { IfOk result (λ next. next ≡ order + 1) }
+{
+    order.checked_add(1).ok_or(AllocError)
+}
+
+impl Source {
+    /// Plants a function.
+    pub(crate) fn plant_function(
+        &self,
+        planter: &mut Planter,
+        item: &Item,
+        order: u32,
+    ) -> Result<(), AllocError>
+        ensures { OnOk result (Plants planter.old planter.new
+            (function_forest (file_of self.now) order item.now)) }
     {
         match item {
             Item::Define {
                 specs,
                 declarator,
                 body,
-            } => self.define(specs, declarator, body, order),
+            } => self.plant_define(planter, specs, declarator, body, order),
         }
     }
 
-    /// Adds the layer of a function, by the parts of its definition.
-    fn define(
-        &mut self,
+    /// Plants a function, by the parts of its definition.
+    fn plant_define(
+        &self,
+        planter: &mut Planter,
         specs: &Specs,
         declarator: &Declarator,
         body: &Block,
         order: u32,
     ) -> Result<(), AllocError>
-        requires room { length self.old.nodes +
-            function_size (Item.Define specs.now declarator.now body.now) ≤ MAX_NODES }
-        ensures { OnOk result (Adds self.old self.new
-            (function_nodes self.old.file order (Item.Define specs.now declarator.now body.now))
-            (function_edges (length self.old.nodes)
-            (Item.Define specs.now declarator.now body.now))) }
+        ensures { OnOk result (Plants planter.old planter.new (function_forest (file_of self.now)
+            order (Item.Define specs.now declarator.now body.now))) }
     {
         let name = name_of(declarator);
-        let line = self.line(name);
-        let method = self.count();
-        self.node(Node {
-            form: Form::Method,
-            token: name,
-            line,
-            rank: Rank::child(order),
-        })?;
-        self.child(method, method + 1)?;
-        self.body(body)?;
-        let end = self.count();
-        self.child(method, end)?;
-        self.node(Node {
-            form: Form::MethodReturn,
-            token: type_of(specs),
-            line,
-            rank: Rank::child(2),
-        })
+        planter.enter(Hang::Plain, &self.method(name, order))?;
+        self.plant_block(planter, body)?;
+        planter.leaf(Hang::Plain, &self.method_return(name, type_of(specs)))?;
+        planter.leave();
+        Ok(())
     }
 
-    /// Adds the `BLOCK` of a body, and its statements.
-    fn body(&mut self, body: &Block) -> Result<(), AllocError>
-        requires room { length self.old.nodes + (1 + children_size (expressions body.now.items)) ≤
-            MAX_NODES }
-        ensures { OnOk result (Adds self.old self.new
-            (block_node self.old.file (slice_get body.now.marks 0) ∷
-            children_nodes self.old.file 1 (expressions body.now.items))
-            (children_edges (length self.old.nodes) (length self.old.nodes + 1)
-            (expressions body.now.items))) }
+    /// Plants the body of a function.
+    fn plant_block(&self, planter: &mut Planter, body: &Block) -> Result<(), AllocError>
+        ensures { OnOk result (Plants planter.old planter.new
+            (block_forest (file_of self.now) body.now)) }
     {
         let brace = body.marks.items().first().copied();
-        let line = self.line(brace);
-        let block = self.count();
-        self.node(Node {
-            form: Form::Block,
-            token: brace,
-            line,
-            rank: Rank::child(1),
-        })?;
-        self.statements(body.items.items(), block)
+        planter.enter(Hang::Plain, &self.block(brace))?;
+        self.plant_statements(planter, body.items.items())?;
+        planter.leave();
+        Ok(())
     }
 
-    /// Adds the statements that are the children of a block.
-    fn statements(&mut self, items: &[BlockItem], block: u32) -> Result<(), AllocError>
-        requires room { length self.old.nodes + children_size (expressions items.now) ≤ MAX_NODES }
-        ensures { OnOk result (Adds self.old self.new
-            (children_nodes self.old.file 1 (expressions items.now))
-            (children_edges block (length self.old.nodes) (expressions items.now))) }
+    /// Plants statements, the children of a BLOCK.
+    fn plant_statements(
+        &self,
+        planter: &mut Planter,
+        items: &[BlockItem],
+    ) -> Result<(), AllocError>
+        ensures { OnOk result (Plants planter.old planter.new
+            (children_forest (file_of self.now) 1 (expressions items.now))) }
     {
         let mut order = 0;
         for item in items {
             if let Some(part) = parts_of(item).first() {
-                order += 1;
-                let at = self.count();
-                self.child(block, at)?;
-                self.assign(part, Rank::child(order))?;
+                order = next_order(order)?;
+                self.plant_assign(planter, part, Rank::child(order))?;
             }
         }
         Ok(())

@@ -1,23 +1,17 @@
-//! The syntax layer of the code property graph of a C file: its nodes, and its AST and ARGUMENT
-//! edges.
+//! The syntax layer of the code property graph: a pass that adds the tree of each source, as nodes
+//! with AST and ARGUMENT edges.
 #![tactic(auto)]
 
-mod builder;
-mod edge;
 mod expressions;
+mod files;
 mod functions;
-pub mod laws;
-mod layer;
-mod node;
+mod nodes;
 mod operator;
-mod sorting;
+mod pass;
+mod rank;
 mod source;
 #[cfg(test)]
 mod tests;
-mod view;
-mod walk;
 
-pub use layer::SyntaxLayer;
+pub use pass::{AstPass, MAX_SOURCES};
 pub use source::Source;
-pub use view::LayerView;
-pub use walk::{MAX_NODES, syntax_layer};

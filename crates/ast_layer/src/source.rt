@@ -1,36 +1,39 @@
-//! A source file as the walk and the view read it: tokens by their numbers, and places.
+//! A source file as the pass reads it: tokens by their numbers, and places.
 
-ghost use Rattle.std.specs.Prelude.{◌≡◌, [], length, slice_get, slice_range};
+ghost use Rattle.std.specs.Prelude.{◌≡◌, ◌≤◌, [], length, slice_get, slice_range};
 ghost use Rattle.std.specs.Option.{unwrap_or};
 ghost use Rattle.std.proofs.Props.{props};
+ghost use Rattle.c_lexer.specs.declared.source_text.TheConstants.{MAX_FILE_BYTES};
 ghost use Rattle.line_marks.specs.Kept.{ArePositionsIn};
 
-use c_lexer::{SourceText, Token};
-use joern_io::Bytes;
-use line_marks::{Place, item_at};
+use c_lexer::Token;
+use c_tree::Unit;
+use joern_io::{Bytes, List};
+use line_marks::{Place, Places, item_at};
 
-/// A source file: its name, its text, its tokens, those among them that are kept for the parser,
-/// and the presumed place of each token.
+/// A source file that was read: its name, its bytes, its tokens, those among them that are kept for
+/// the parser, the presumed place of each token, and the tree.
 ///
-/// A token's number is its position among the kept ones.
-#[derive(Clone, Copy, Debug)]
-pub struct Source<'s> {
+/// A token's number, by which the tree names it, is its position among the kept ones.
+#[derive(Drop)]
+pub struct Source {
     /// The name of the file itself.
-    pub name: &'s [u8],
-    pub text: SourceText<'s>,
-    /// All tokens of the text.
-    pub tokens: &'s [Token],
+    pub name: Bytes,
+    pub bytes: Bytes,
+    /// All tokens of the bytes.
+    pub tokens: List<Token>,
     /// The positions of the kept tokens among all, in their order.
-    pub kept: &'s [u32],
+    pub kept: List<u32>,
     /// The presumed place of each token, at the token's position among all.
-    pub places: &'s [Place],
-    /// The names of the files in which the places are.
-    pub files: &'s [Bytes],
-    pub ghost inside: { ArePositionsIn tokens.now kept.now } by { Prim.hlevel props },
-    pub ghost one_each: { length places.now ≡ length tokens.now },
+    pub places: Places,
+    /// The tree of the kept tokens.
+    pub unit: Unit,
+    pub ghost within: { length bytes ≤ MAX_FILE_BYTES },
+    pub ghost inside: { ArePositionsIn tokens kept } by { Prim.hlevel props },
+    pub ghost one_each: { length places.places ≡ length tokens },
 }
 
-impl<'s> Source<'s> {
+impl Source {
     ghost use Rattle.std.specs.Option.{option_map};
     ghost use Rattle.ast_layer.specs.Source.{file_of, place_of, presumed_of, token_of};
     ghost use Rattle.ast_layer.specs.Source.{presumed_file_at, presumed_line_at, spelling_at};
@@ -40,18 +43,19 @@ impl<'s> Source<'s> {
         ensures { result ≡ token_of (file_of self.now) number }
     {
         match number {
-            Some(number) => item_at(self.tokens, self.kept, number as usize),
+            Some(number) => item_at(self.tokens.items(), self.kept.items(), number as usize),
             None => None,
         }
     }
 
     /// The place of a token, if there is one.
     fn place(&self, number: Option<u32>) -> Option<Place>
-        ensures { option_map (presumed_of self.now.files.now) result ≡
+        ensures { option_map (presumed_of self.now.places.files) result ≡
             place_of (file_of self.now) number }
     {
+        let places = self.places.places.items();
         match number {
-            Some(number) => item_at(self.places, self.kept, number as usize),
+            Some(number) => item_at(places, self.kept.items(), number as usize),
             None => None,
         }
     }
@@ -67,21 +71,21 @@ impl<'s> Source<'s> {
     }
 
     /// The name of the file of a token, and none where there is no token.
-    pub(crate) fn filename(&self, number: Option<u32>) -> &'s [u8]
+    pub(crate) fn filename(&self, number: Option<u32>) -> &[u8]
         ensures { result.now ≡ presumed_file_at (file_of self.now) number }
     {
         match self.place(number) {
-            Some(place) => name_at(self.files, place.file),
+            Some(place) => name_at(self.places.files.items(), place.file),
             None => &[],
         }
     }
 
     /// The bytes of a token, and none where there is no token.
-    pub(crate) fn spelling(&self, number: Option<u32>) -> &'s [u8]
+    pub(crate) fn spelling(&self, number: Option<u32>) -> &[u8]
         ensures { result.now ≡ spelling_at (file_of self.now) number }
     {
         match self.token(number) {
-            Some(token) => between(self.text.bytes, token.start as usize, token.end as usize),
+            Some(token) => between(self.bytes.items(), token.start as usize, token.end as usize),
             None => &[],
         }
     }
