@@ -15,6 +15,13 @@ slice_bounds-update-count c =
     let within = token.longest.within in
     omega arith
 
+pub slice_bounds-update-end : goal.slice_bounds-update-end
+slice_bounds-update-end c =
+    let token = token_is c.args.text.bytes.now c.args.tokens.now c.loop-token.token-index blank c.requires.tokens c.loop-token-test.true in
+    let some = token.longest.some in
+    let within = token.longest.within in
+    omega arith
+
 pub slice_bounds-update-start : goal.slice_bounds-update-start
 slice_bounds-update-start c =
     let token = token_is c.args.text.bytes.now c.args.tokens.now c.loop-token.token-index blank c.requires.tokens c.loop-token-test.true in
