@@ -1,16 +1,30 @@
 -- Names that are added to a list where they are first mentioned.
-use Rattle.std.proofs.Common.{◌≡◌, ℕ, zero, suc, Bool, true, false, cond, ◌||◌, List, [], ◌∷◌, ◌++◌, Some, length, map, refl, ap, sym, subst, ◌∙◌}
+use Rattle.std.proofs.Common.{◌≡◌, ◌⊎◌, ◌+◌, ◌≤◌, ℕ, zero, suc, Bool, true, false, cond, ◌||◌, List, [], ◌∷◌, ◌++◌, Some, length, map, refl, ap, sym, subst, ◌∙◌, arith, inl, inr}
 use Rattle.std.specs.Borrow.{Bor}
 use Rattle.std.specs.List.{Contains, list_any, slice_get}
 use Rattle.std.specs.Option.{option_map}
 use Rattle.std.specs.Str.{bytes_eq}
-use Rattle.std.proofs.lemmas.List.{map-append}
+use Rattle.std.proofs.lemmas.List.{length-append, map-append}
 use Rattle.std.proofs.lemmas.Map.Views.{Contains-from_any}
 use Rattle.std.proofs.lemmas.Map.Keys.{any_passes_from_place}
-use Rattle.std.proofs.lemmas.Option.{slice_get-map, slice_get_read}
+use Rattle.std.proofs.lemmas.Option.{get_or_from_slice_get, slice_get-map, slice_get_read, slice_get_within}
 use Rattle.std.proofs.lemmas.Slice.Eq.{bytes_eq-Decides}
 use Rattle.indexmap.specs.IndexSet.{insert_key}
 use Rattle.line_marks.specs.Presumed.{AddsNames}
+
+-- A name that stands at a position is in the list.
+pub contains_at : (a : List (List ℕ)) (i : ℕ) (x : List ℕ) → slice_get a i ≡ Some x → Contains a x
+contains_at a i x h = (i, slice_get_within a i x h, get_or_from_slice_get a i x x h)
+
+-- What stands in a list with one more name.
+pub get_push : (a : List (List ℕ)) (y : List ℕ) (i : ℕ) (x : List ℕ) → slice_get (a ++ y ∷ []) i ≡ Some x → (slice_get a i ≡ Some x) ⊎ ((i ≡ length a) × (x ≡ y))
+get_push [] y zero x h = inr (refl, cc)
+get_push [] y (suc i) x h = absurd (cc)
+get_push (z ∷ a) y zero x h = inl h
+get_push (z ∷ a) y (suc i) x h = elim (get_push a y i x h) [
+  | inl there ↦ inl there
+  | inr last ↦ inr (let e = last.0 in omega arith, last.1)
+]
 
 pub get_append : (xs : List (List ℕ)) (y : List ℕ) (n : ℕ) (x : List ℕ) → slice_get xs n ≡ Some x → slice_get (xs ++ y ∷ []) n ≡ Some x
 get_append [] y n x h = absurd (cc)
@@ -63,3 +77,11 @@ pub adds_keep : (a b xs : List (List ℕ)) (n : ℕ) (x : List ℕ) → AddsName
 adds_keep a b xs n x AddsNames.none h = h
 adds_keep a b xs n x (AddsNames.known {names = zs} name there rest) h = adds_keep a b zs n x rest h
 adds_keep a b xs n x (AddsNames.new {names = zs} name fresh rest) h = adds_keep (a ++ name ∷ []) b zs n x rest (get_append a name n x h)
+
+-- There are no more names than were there and were added.
+pub adds_few : (a b xs : List (List ℕ)) → AddsNames a xs b → length b ≤ length a + length xs
+adds_few a b xs AddsNames.none = omega arith
+adds_few a b xs (AddsNames.known {names = zs} name there rest) = let few = adds_few a b zs rest in omega arith
+adds_few a b xs (AddsNames.new {names = zs} name fresh rest) =
+    let few = adds_few (a ++ name ∷ []) b zs rest in
+    omega (arith, length-append a (name ∷ []))
