@@ -7,7 +7,7 @@ use Rattle.cpg_schema.specs.Graph.{PlainNode, PlainEdge, PlainGraph, plain_graph
 use Rattle.cpg_schema.specs.Deltas.{PlainDelta, applied, added_edge}
 use Rattle.cpg_schema.specs.Fitting.{Fits, IsEdgeAmong}
 use Rattle.cpg_schema.specs.Sequence.{seq}
-use Rattle.cpg_schema.specs.Shape.{IsAstEdgeAt, IsAbove, child as child_of, below as further, IsShaped}
+use Rattle.cpg_schema.specs.Shape.{IsAstEdgeAt, IsAbove, child as child_of, descendant as further, IsShaped}
 use Rattle.graph_delta.proofs.Sequencing.{seq_keeps}
 use Rattle.graph_forest.specs.Forest.{Forest, nodes_of, edges_of, planted, IsAllowed, IsPlanted}
 use Rattle.graph_forest.proofs.Fitting.{planted_fits}
