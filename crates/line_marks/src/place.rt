@@ -67,7 +67,7 @@ fn behind<'b>(
     requires marker { IsLineMarker text.bytes.now token.now.start token.now.end }
     ensures { IfOk result (λ after.
         IsBehind text.entry.bytes.now token.now (names_of files.old) (names_of files.new)
-            before after) }
+        before after) }
 {
     let marker = marker_of(text, token);
     let file = match marker.file {
