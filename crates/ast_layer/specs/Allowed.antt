@@ -1,8 +1,8 @@
 -- The schema allows the forest of each construct.
-use Rattle.std.specs.Prelude.{ℕ, ◌+◌, List, [], ◌∷◌, Option, Some, None, refl}
-use Rattle.cpg_schema.specs.declared.label.Label.{Label}
+use Rattle.std.specs.Prelude.{ℕ, ◌+◌, List, [], ◌∷◌, Some, refl}
 use Rattle.cpg_schema.specs.declared.label.Label.TheVariants.{Method, Block, Call}
-use Rattle.graph_forest.specs.Forest.{Forest, none, tree, leaf, beside, IsAllowed, IsAllowedUnder}
+use Rattle.graph_forest.specs.Forest.{leaf, IsAllowed, IsAllowedUnder}
+use Rattle.graph_forest.proofs.Allowing.{allowed-beside}
 use Rattle.c_tree.specs.declared.tree.Unit.{Unit}
 use Rattle.c_tree.specs.declared.tree.Item.{Item}
 use Rattle.c_tree.specs.declared.tree.Item.TheVariants as item
@@ -14,15 +14,6 @@ use Rattle.ast_layer.specs.Ranks.{child, argument}
 use Rattle.ast_layer.specs.Nodes.{form_node}
 use Rattle.ast_layer.specs.Forests.{grouped_forest, expressions, children_forest, function_forest}
 use Rattle.ast_layer.specs.Forests.{functions_forest, file_forest}
-
--- Forests that are allowed are so beside one another.
-allowed_beside : (parent : Option Label) (first second : Forest) →
-    IsAllowedUnder parent first → IsAllowedUnder parent second →
-    IsAllowedUnder parent (beside first second)
-unfolding beside
-allowed_beside parent none second f s = s
-allowed_beside parent (tree hang node children after) second f s =
-    (f.0, f.1, allowed_beside parent after second f.2 s)
 
 -- An operand may be an argument of a CALL.
 form_argument : (file : File) (order : ℕ) (form : BaseForm) →
@@ -43,7 +34,7 @@ expression_argument file order (Operand operand) = form_argument file order oper
 expression_argument file order (Joined operator left right) =
     let first = expression_argument file 1 left in
     let second = expression_argument file 2 right in
-    (refl, allowed_beside _ _ _ first second, tt)
+    (refl, allowed-beside _ _ _ first second, tt)
 
 expression_child : (file : File) (order : ℕ) (grouped : Grouped) →
     IsAllowedUnder (Some Block) (grouped_forest file (child order) grouped)
@@ -51,7 +42,7 @@ expression_child file order (Operand operand) = form_child file order operand.ba
 expression_child file order (Joined operator left right) =
     let first = expression_argument file 1 left in
     let second = expression_argument file 2 right in
-    (refl, allowed_beside _ _ _ first second, tt)
+    (refl, allowed-beside _ _ _ first second, tt)
 
 -- The statements of a BLOCK.
 children_allowed : (file : File) (order : ℕ) (children : List Grouped) →
@@ -59,24 +50,24 @@ children_allowed : (file : File) (order : ℕ) (children : List Grouped) →
 children_allowed file order [] = tt
 children_allowed file order (first ∷ rest) =
     let others = children_allowed file (order + 1) rest in
-    allowed_beside _ _ _ (expression_child file order first) others
+    allowed-beside _ _ _ (expression_child file order first) others
 
 -- A function, and functions.
 function_allowed : (file : File) (order : ℕ) (function : Item) →
     IsAllowedUnder (Some Block) (function_forest file order function)
 function_allowed file order (item.Define specs declarator body) =
     let children = children_allowed file 1 (expressions body.items) in
-    (refl, allowed_beside _ _ _ (refl, children, tt) (refl, tt, tt), tt)
+    (refl, allowed-beside _ _ _ (refl, children, tt) (refl, tt, tt), tt)
 
 functions_allowed : (file : File) (order : ℕ) (items : List Item) →
     IsAllowedUnder (Some Block) (functions_forest file order items)
 functions_allowed file order [] = tt
 functions_allowed file order (first ∷ rest) =
     let others = functions_allowed file (order + 1) rest in
-    allowed_beside _ _ _ (function_allowed file order first) others
+    allowed-beside _ _ _ (function_allowed file order first) others
 
 -- A file.
 pub file_allowed : (file : File) (unit : Unit) → IsAllowed (file_forest file unit)
 file_allowed file unit =
     let functions = functions_allowed file 1 unit.items in
-    (refl, allowed_beside _ _ _ (refl, functions, tt) (refl, tt, tt), tt)
+    (refl, allowed-beside _ _ _ (refl, functions, tt) (refl, tt, tt), tt)

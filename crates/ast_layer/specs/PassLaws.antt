@@ -37,8 +37,8 @@ pub parts_shape : (sources : List Source) (caps : Caps) (start graph : PlainGrap
     IsShaped graph
 parts_shape sources caps start graph empty is =
     let parts : (part : ℕ) → part < length sources → IsPlanted (part_delta sources part) =
-        λ part _. part_planted sources part in
+    λ part _. part_planted sources part in
     let among : All (IsEdgeAmong start.nodes) start.edges =
-        subst (λ (g : PlainGraph). All (IsEdgeAmong g.nodes) g.edges) (sym empty) (All-nil _) in
+    subst (λ (g : PlainGraph). All (IsEdgeAmong g.nodes) g.edges) (sym empty) (All-nil _) in
     let shaped = subst IsShaped (sym empty) empty_shaped in
     all_stay_shaped caps start (part_delta sources) (length sources) parts among shaped graph is

@@ -103,11 +103,7 @@ impl Source {
     }
 
     /// Plants statements, the children of a BLOCK.
-    fn plant_statements(
-        &self,
-        planter: &mut Planter,
-        items: &[BlockItem],
-    ) -> Result<(), AllocError>
+    fn plant_statements(&self, planter: &mut Planter, items: &[BlockItem]) -> Result<(), AllocError>
         ensures { OnOk result (Plants planter.old planter.new
             (children_forest (file_of self.now) 1 (expressions items.now))) }
     {

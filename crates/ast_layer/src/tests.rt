@@ -13,12 +13,13 @@ use c_tree::{
 };
 use cpg_schema::{Caps, EdgeKind, Key, Label};
 use graph_delta::{Pass, apply};
-use graph_store::{Edge, Graph};
+use graph_store::Graph;
 use joern_io::{Bytes, List};
 use line_marks::laws::law_kept_positions;
 use line_marks::{places_of, strip};
 use std::alloc::{AllocError, Global};
 use std::hash::RandomState;
+use std::process::Abort;
 use std::test::Fail;
 
 /// The function stands in another file, and the token before it is not kept.
@@ -75,7 +76,6 @@ fn source(alloc: Global, name: &str, bytes: &[u8], unit: Unit) -> Result<Source,
 }
 
 /// The empty graph with the parts of a pass, each applied in turn.
-#[tactic(auto, using(crate::specs::PassLaws::parts_fit))]
 fn graph_of(rt: &HostRuntime, pass: &AstPass) -> Result<Graph, Fail> {
     let alloc = rt.alloc();
     let caps = Caps {
@@ -103,8 +103,47 @@ fn text_of(graph: &Graph, id: u32) -> &[u8]
     b""
 }
 
-/// Each node: its label, its text, its line, its order and its position among arguments.
-const NODES: [(Label, &[u8], u32, u32, Option<u32>); 14] = [
+/// A node has this label, this text, this line, this order and this position among arguments.
+type NodeRow = (Label, &'static [u8], u32, u32, Option<u32>);
+
+/// An edge leads from a node to a node.
+type EdgeRow = (u32, EdgeKind, u32);
+
+fn assert_node(rt: &impl Abort, graph: &Graph, id: u32, want: NodeRow)
+    requires { id < length graph.now.nodes }
+{
+    let (label, text, line, order, index) = want;
+    assert_eq!(rt; graph.node(id), label, "node {id}");
+    assert_eq!(rt; text_of(graph, id), text, "node {id}");
+    assert_eq!(rt; graph.number(id, Key::LineNumber), Some(line), "node {id}");
+    assert_eq!(rt; graph.number(id, Key::Order), Some(order), "node {id}");
+    assert_eq!(rt; graph.number(id, Key::ArgumentIndex), index, "node {id}");
+}
+
+fn assert_nodes(rt: &impl Abort, graph: &Graph, wants: &[NodeRow]) {
+    let mut id = 0;
+    for want in wants {
+        assert!(rt; id < graph.len(), "node {id}");
+        assert_node(rt, graph, id, *want);
+        id += 1;
+    }
+    assert_eq!(rt; id, graph.len());
+}
+
+fn assert_edges(rt: &impl Abort, graph: &Graph, wants: &[EdgeRow]) {
+    let edges = graph.edges();
+    assert_eq!(rt; edges.len(), wants.len());
+    for (edge, want) in edges.iter().zip(wants) {
+        assert_eq!(rt; (edge.from, edge.kind, edge.to), *want);
+    }
+}
+
+fn assert_file(rt: &impl Abort, graph: &Graph, id: u32, want: &[u8]) {
+    assert!(rt; id < graph.len(), "node {id}");
+    assert_eq!(rt; graph.text(id, Key::Filename), Some(want), "node {id}");
+}
+
+const NODES: [NodeRow; 14] = [
     (Label::Method, b"<global>", 1, 1, None),
     (Label::Block, b"", 1, 1, None),
     (Label::MethodReturn, b"void", 1, 2, None),
@@ -121,11 +160,7 @@ const NODES: [(Label, &[u8], u32, u32, Option<u32>); 14] = [
     (Label::MethodReturn, b"void", 1, 2, None),
 ];
 
-/// The files of the methods.
-const FILES: [(u32, &[u8]); 3] = [(0, b"a.c"), (3, b"b.c"), (5, b"x.c")];
-
-/// Each edge, in the order of the nodes that it leads to.
-const EDGES: [(u32, EdgeKind, u32); 16] = [
+const EDGES: [EdgeRow; 16] = [
     (0, EdgeKind::Ast, 1),
     (0, EdgeKind::Ast, 2),
     (3, EdgeKind::Ast, 4),
@@ -144,37 +179,24 @@ const EDGES: [(u32, EdgeKind, u32); 16] = [
     (3, EdgeKind::Ast, 13),
 ];
 
-#[test]
-fn two_sources_become_one_graph(rt: HostRuntime) -> Result<(), Fail> {
-    let alloc = rt.alloc();
+/// The pass over a source without functions, and that of `TEXT`.
+fn two_sources(alloc: Global) -> Result<AstPass, Fail> {
     let nothing = Unit {
         items: List::new(alloc),
     };
-    let mut sources = Vec::new(alloc);
-    sources.push(source(alloc, "a.c", b"", nothing)?)?;
-    sources.push(source(alloc, "b.c", TEXT, one_function(alloc)?)?)?;
-    let graph = graph_of(&rt, &AstPass::new(sources))?;
-    assert_eq!(rt; graph.len() as usize, NODES.len());
-    for (id, (label, text, line, order, index)) in (0..graph.len()).zip(NODES) {
-        assert_eq!(rt; graph.node(id), label, "node {id}");
-        assert_eq!(rt; text_of(&graph, id), text, "node {id}");
-        assert_eq!(rt; graph.number(id, Key::LineNumber), Some(line), "node {id}");
-        assert_eq!(rt; graph.number(id, Key::Order), Some(order), "node {id}");
-        assert_eq!(rt; graph.number(id, Key::ArgumentIndex), index, "node {id}");
-    }
-    for (id, file) in FILES {
-        assert!(rt; id < graph.len());
-        assert_eq!(rt; graph.text(id, Key::Filename), Some(file), "node {id}");
-    }
-    assert_eq!(rt; graph.edges().len(), EDGES.len());
-    for (edge, (from, kind, to)) in graph.edges().iter().zip(EDGES) {
-        let want = Edge {
-            from,
-            kind,
-            to,
-            variable: 0,
-        };
-        assert_eq!(rt; *edge, want);
-    }
+    let first = source(alloc, "a.c", b"", nothing)?;
+    let second = source(alloc, "b.c", TEXT, one_function(alloc)?)?;
+    Ok(AstPass::new(Vec::from_array(alloc, [first, second])?))
+}
+
+#[test]
+fn two_sources_become_one_graph(rt: HostRuntime) -> Result<(), Fail> {
+    let pass = two_sources(rt.alloc())?;
+    let graph = graph_of(&rt, &pass)?;
+    assert_nodes(&rt, &graph, &NODES);
+    assert_file(&rt, &graph, 0, b"a.c");
+    assert_file(&rt, &graph, 3, b"b.c");
+    assert_file(&rt, &graph, 5, b"x.c");
+    assert_edges(&rt, &graph, &EDGES);
     Ok(())
 }

@@ -78,6 +78,9 @@ module _ (id rank : ℕ) where
       ap (insert_edge (turned edge)) (turn-in_order edges rest)
 
 module _ (graph : StoredGraph) (index : Indexed) (h : IsIndexOf graph index) (id : ℕ) (kind : EdgeKind) where
+  names : List (List ℕ)
+  names = graph.names
+
   -- the edges that lead from the node
   pub lent_out : map (plain_edge graph.names) (out_edges index id kind) ≡ edges_from (plain graph) id kind
   lent_out =

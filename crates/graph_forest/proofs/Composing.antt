@@ -82,6 +82,6 @@ pub plants_more : {X : Type 0} (forest : X → Forest) (xs : List X) (i : ℕ) (
 plants_more forest xs i x a b c low p q =
     let f = forest (get_or xs i x) in
     let items =
-        ap (λ (ys : List _). map forest ys) (take_more xs i x low) ∙ map-append forest (take i xs) (get_or xs i x ∷ []) in
+    ap (λ (ys : List _). map forest ys) (take_more xs i x low) ∙ map-append forest (take i xs) (get_or xs i x ∷ []) in
     let same = ap joined items ∙ joined-push (map forest (take i xs)) f in
     subst (λ (g : Forest). Plants a c g) (sym same) (plants_beside a b c (joined (map forest (take i xs))) f p q)

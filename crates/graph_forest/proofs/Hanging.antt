@@ -49,11 +49,11 @@ pub plants_hung : (old : Planting) (d d1 d2 : PlainDelta) (items s : List ℕ) (
     d2 ≡ record d1 { edges = d1.edges ++ edges_to (Some parent) h position } → Plants old (planting_of d2 items) (leaf h x)
 plants_hung old d d1 d2 items s parent position h x view last same node at hung =
     let from : innermost (reverse items) ≡ Some parent =
-        innermost_is items ∙ sym (last ∙ ap (λ (xs : List ℕ). slice_get xs (length xs - 1)) same) in
+    innermost_is items ∙ sym (last ∙ ap (λ (xs : List ℕ). slice_get xs (length xs - 1)) same) in
     let is : d2 ≡ added d (x ∷ []) (edges_to (Some parent) h (length d.nodes)) =
-        hung
-        ∙ (ap (λ (e : PlainDelta). record e { edges = e.edges ++ edges_to (Some parent) h position }) node
-        ∙ ap (λ (n : ℕ). added d (x ∷ []) (edges_to (Some parent) h n)) at) in
+    hung
+    ∙ (ap (λ (e : PlainDelta). record e { edges = e.edges ++ edges_to (Some parent) h position }) node
+    ∙ ap (λ (n : ℕ). added d (x ∷ []) (edges_to (Some parent) h n)) at) in
     subst (λ (o : Planting). Plants o (planting_of d2 items) (leaf h x)) view (plants_leaf d d2 (reverse items) (Some parent) h x from is)
 
 -- a node that hangs from none
@@ -61,6 +61,6 @@ pub plants_root : (old : Planting) (d d1 : PlainDelta) (items s : List ℕ) (h :
     None ≡ slice_get s (length s - 1) → s ≡ items → d1 ≡ with_node d x → Plants old (planting_of d1 items) (leaf h x)
 plants_root old d d1 items s h x view last same node =
     let from : innermost (reverse items) ≡ None =
-        innermost_is items ∙ sym (last ∙ ap (λ (xs : List ℕ). slice_get xs (length xs - 1)) same) in
+    innermost_is items ∙ sym (last ∙ ap (λ (xs : List ℕ). slice_get xs (length xs - 1)) same) in
     let is : d1 ≡ added d (x ∷ []) [] = node ∙ ap (λ (es : List NewEdge). record d { nodes = d.nodes ++ x ∷ []; edges = es }) (sym (append-nil d.edges)) in
     subst (λ (o : Planting). Plants o (planting_of d1 items) (leaf h x)) view (plants_leaf d d1 (reverse items) None h x from is)

@@ -79,11 +79,11 @@ module _ (s : ℕ) where
       let start_below : s + first + 1 ≤ s + (first + 1) = omega arith in
       let end : s + at + length (nodes_of a) ≤ s + first + length (n ∷ (nodes_of c ++ nodes_of a)) = omega arith in
       let rises_below =
-          lower s (s + at) (s + (first + 1)) (s + first + 1) (map (added_edge s) below) start_below
-          (higher s (s + (first + 1) + length (nodes_of c)) (s + at) (s + (first + 1)) (map (added_edge s) below) end_below (rises (Some first) (first + 1) c next)) in
+      lower s (s + at) (s + (first + 1)) (s + first + 1) (map (added_edge s) below) start_below
+      (higher s (s + (first + 1) + length (nodes_of c)) (s + at) (s + (first + 1)) (map (added_edge s) below) end_below (rises (Some first) (first + 1) c next)) in
       let rises_behind =
-          higher s (s + at + length (nodes_of a)) (s + first + length (n ∷ (nodes_of c ++ nodes_of a))) (s + at) (map (added_edge s) behind) end
-          (rises parent at a (earlier parent first at past up)) in
+      higher s (s + at + length (nodes_of a)) (s + first + length (n ∷ (nodes_of c ++ nodes_of a))) (s + at) (map (added_edge s) behind) end
+      (rises parent at a (earlier parent first at past up)) in
       joins_added (s + at) (s + first + length (n ∷ (nodes_of c ++ nodes_of a))) (s + first) (one ++ below) behind
       (joins_added (s + first + 1) (s + at) (s + first) one below (rises_to parent h first up) rises_below) rises_behind
 

@@ -25,7 +25,12 @@ pub(crate) fn add_node(delta: &mut Delta, node: &NewNode<'_>) -> Result<u64, All
     add_number(delta, position, Key::Order, node.order)?;
     add_number(delta, position, Key::ArgumentIndex, node.argument_index)?;
     add_text(delta, position, Key::TypeFullName, node.type_full_name)?;
-    add_text(delta, position, Key::ControlStructureType, node.control_structure_type)?;
+    add_text(
+        delta,
+        position,
+        Key::ControlStructureType,
+        node.control_structure_type,
+    )?;
     add_text(delta, position, Key::Linkage, node.linkage)?;
     Ok(position)
 }

@@ -20,9 +20,9 @@ use std::test::Fail;
 fn plant_if(planter: &mut Planter) -> Result<(), AllocError>
     ensures { OnOk result (Plants planter.old planter.new (beside
         (branch Plain (bare_node ControlStructure) (beside
-            (branch Condition (record (bare_node Call) { name = Some (codes "f") })
-                (leaf Argument (record (bare_node Identifier) { argument_index = Some 1 })))
-            (leaf Plain (bare_node Return))))
+        (branch Condition (record (bare_node Call) { name = Some (codes "f") })
+        (leaf Argument (record (bare_node Identifier) { argument_index = Some 1 })))
+        (leaf Plain (bare_node Return))))
         (leaf Plain (bare_node File)))) }
 {
     planter.enter(Hang::Plain, &NewNode::bare(Label::ControlStructure))?;

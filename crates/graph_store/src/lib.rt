@@ -12,8 +12,6 @@ mod node_row;
 #[cfg(test)]
 mod tests;
 
-
-
 pub use applying::{ApplyStop, apply};
 pub use delta::{Delta, Value};
 pub use edge::Edge;

@@ -95,8 +95,9 @@ fn second_edge(graph: &Graph) -> Result<Delta, AllocError>
 /// The graph of `a.c`, with names of both nodes.
 fn small_graph(rt: &HostRuntime) -> Result<Graph, Fail>
     ensures { IfOk result (λ graph. graph.nodes ≡
-      record (bare_node File) { name = Some (codes "a.c") }
-      ∷ record (bare_node NamespaceBlock) { name = Some (codes "<global>"); order = Some 1 } ∷ []) }
+        record (bare_node File) { name = Some (codes "a.c") }
+        ∷ record (bare_node NamespaceBlock) { name = Some (codes "<global>"); order = Some 1 }
+        ∷ []) }
 {
     let mut graph = empty_graph(rt, 2, 1)?;
     let first = file_with_block(&graph)?;

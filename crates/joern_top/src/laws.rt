@@ -23,8 +23,8 @@ pub fn law_one_outcome()
 
 /// The words and the held files have an outcome: it cannot be that nothing is one.
 ///
-/// That is existence in classical terms. Where a comment is left open, and whether tokens have a
-/// tree, no definition decides, so that no outcome is named.
+/// That is existence in classical terms. Whether tokens have a tree no definition decides, so that
+/// no outcome is named.
 pub fn law_some_outcome()
     ensures some { (words : List (List ℕ)) (held : Held) →
         ¬ ((o : Outcome) → ¬ IsOutcome words held o) }

@@ -4,7 +4,6 @@ pub mod Deciding
 pub mod ItemsAt
 pub mod Rising
 pub mod Names
-pub mod Mentioning
 pub mod OnePlace
 pub mod Tokens
 pub mod Walk

@@ -114,7 +114,7 @@ file_behind files more names before after (Some name) old added here found = fou
 
 -- One more token that is a line marker.
 pub walked_marker : (bytes name : List ℕ) (tokens : List Token) (places : List Place) (files more : FileNames) (before after : Kept) (token : Token) (place : Place) →
-    Walked bytes name tokens places (names_of files) before.file before.from before.line → token.kind ≡ Line → IsBehind bytes token files more before after →
+    Walked bytes name tokens places (names_of files) before.file before.from before.line → token.kind ≡ Line → IsBehind bytes token (names_of files) (names_of more) before after →
     place.file ≡ before.file → place.line ≡ before.line + (token.line - before.from) →
     Walked bytes name (tokens ++ token ∷ []) (places ++ place ∷ []) (names_of more) after.file after.from after.line
 walked_marker bytes name tokens places files more before after token place w marker b at_file at_line =

@@ -5,6 +5,7 @@ mod balance;
 mod file_names;
 mod kept;
 pub mod laws;
+mod name_key;
 mod place;
 mod stop;
 mod stripping;

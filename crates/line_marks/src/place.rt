@@ -6,10 +6,11 @@
 ghost use Rattle.std.specs.Prelude.{◌≡◌, ◌+◌, ◌-◌, ◌<◌, ◌≤◌, ◌^◌, length, IfOk};
 ghost use Rattle.c_lexer.specs.Directives.{IsLineMarker};
 ghost use Rattle.c_lexer.specs.Reading.{AreTokensOf};
-ghost use Rattle.line_marks.specs.Naming.{AreFound, IsBehind, names_of};
+ghost use Rattle.line_marks.specs.Naming.{IsBehind, names_of};
 ghost use Rattle.line_marks.specs.Presumed.{ArePlacesOf};
 
 use crate::file_names::FileNames;
+use crate::name_key::hashes_of;
 use c_lexer::{Kind, SourceText, Token, marker_of};
 use joern_io::{Bytes, List};
 use std::alloc::{AllocError, Global};
@@ -61,12 +62,12 @@ fn behind<'b>(
     text: SourceText<'b>,
     token: &Token,
 ) -> Result<Presumption, AllocError>
-    requires few { length (names_of files.old) < 2 ^ 32 }
-    requires found { AreFound files.old }
+    requires few { length (names_of files.old) + 1 < 2 ^ 32 }
     requires line { token.now.line ≤ length text.bytes.now + 1 }
     requires marker { IsLineMarker text.bytes.now token.now.start token.now.end }
     ensures { IfOk result (λ after.
-        IsBehind text.entry.bytes.now token.now files.old files.new before after) }
+        IsBehind text.entry.bytes.now token.now (names_of files.old) (names_of files.new)
+        before after) }
 {
     let marker = marker_of(text, token);
     let file = match marker.file {
@@ -96,7 +97,7 @@ pub fn places_of(
         ArePlacesOf text.entry.bytes.now tokens.now name.now places.places places.files) }
     ensures one_each { IfOk result (λ places. length places.places ≡ length tokens.now) }
 {
-    let mut files = FileNames::new(alloc);
+    let mut files = FileNames::new(alloc, hashes_of(text, tokens)?);
     let file = files.mention(name.as_bytes())?;
     let mut presumption = Presumption {
         file,

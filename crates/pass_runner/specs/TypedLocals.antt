@@ -8,18 +8,24 @@ use Rattle.std.specs.Prelude.{
   [],
   ◌∷◌,
   ◌++◌,
+  ◌==◌,
+  Bool,
   Some,
   Ok,
   length,
   refl,
 }
+use borrow.Author.Tests.{clash}
+use Rattle.std.proofs.Common.{ap}
 use Rattle.std.specs.List.{All}
 use Rattle.std.proofs.lemmas.List.Elements.{All-nil, All-cons}
 use Rattle.cpg_schema.specs.declared.caps.Caps.{Caps}
 use Rattle.cpg_schema.specs.declared.key.Key.TheVariants as key
 use Rattle.cpg_schema.specs.declared.label.Label.TheVariants as label
+use Rattle.cpg_schema.specs.declared.edge_kind.EdgeKind.{EdgeKind}
 use Rattle.cpg_schema.specs.declared.edge_kind.EdgeKind.TheVariants as edge_kind
 use Rattle.cpg_schema.specs.declared.end.End.TheVariants.{New}
+use Rattle.cpg_schema.specs.Names.{kind_rank}
 use Rattle.cpg_schema.specs.Graph.{PlainNode, PlainGraph, bare_node}
 use Rattle.cpg_schema.specs.Properties.{with_number}
 use Rattle.cpg_schema.specs.Deltas.{NewEdge, PlainDelta, added_edge}
@@ -68,7 +74,8 @@ pub stays_shaped_by : (caps : Caps) (start : PlainGraph) (count parts : ℕ) →
     (graph : PlainGraph) → seq caps start (λ (part : ℕ). typed_local count) parts ≡ Ok graph →
     IsShaped graph
 stays_shaped_by caps start count parts shaped graph is =
-    let other : ¬ (edge_kind.EvalType ≡ edge_kind.Ast) = λ same. cc in
+    let is_ast : EdgeKind → Bool = λ kind. kind_rank kind == 0 in
+    let other : ¬ (edge_kind.EvalType ≡ edge_kind.Ast) = λ same. clash (ap is_ast same) in
     stays_shaped caps start (λ (part : ℕ). typed_local count) parts shaped
     (λ k low. All-cons (λ (edge : NewEdge). ¬ (edge.kind ≡ edge_kind.Ast)) type_edge [] other
     (All-nil _)) graph is

@@ -5,12 +5,12 @@ use Rattle.c_lexer.specs.Scanning.{name_of}
 use Rattle.c_lexer.specs.declared.token.Token.{Token}
 use Rattle.line_marks.specs.declared.file_names.FileNames.{FileNames}
 use Rattle.line_marks.specs.declared.place.Presumption.{Presumption}
-use Rattle.line_marks.specs.Naming.{AreFound, IsBehind, Mentions, names_of}
+use Rattle.line_marks.specs.Naming.{IsBehind, Mentions, names_of}
 use Rattle.line_marks.specs.Presumed.{AddsNames}
 use Rattle.line_marks.proofs.place.behind.Goals as goal
 use Rattle.line_marks.proofs.place.behind.Goals.{in-Some+in_ok-file-in-Some, in-None}
 
-module _ (bytes : List ℕ) (token : Token) (files more : FileNames) (before : Presumption) (file line : ℕ) (said : Option (Bor (List ℕ)))
+module _ (bytes : List ℕ) (token : Token) (files more : List (List ℕ)) (before : Presumption) (file line : ℕ) (said : Option (Bor (List ℕ)))
     (marker : IsMarkerOf bytes token.start token.end line (name_of said)) where
   with_name : (name : Bor (List ℕ)) → said ≡ Some name → Mentions files more name.now file →
       IsBehind bytes token files more before (record { file = file; from = token.line + 1; line = line })
@@ -23,38 +23,36 @@ module _ (bytes : List ℕ) (token : Token) (files more : FileNames) (before : P
     line = refl;
     small = marker.line_number.small;
     few = mentions.few;
-    found = mentions.found;
   }
 
-  without_name : said ≡ None → more ≡ files → file ≡ before.file → AreFound files →
+  without_name : said ≡ None → more ≡ files → file ≡ before.file →
       IsBehind bytes token files more before (record { file = file; from = token.line + 1; line = line })
-  without_name e same kept found = record {
+  without_name e same kept = record {
     said = record { line = line; file = None };
     marker = subst (λ (o : Option (Bor (List ℕ))). IsMarkerOf bytes token.start token.end line (name_of o)) e marker;
-    added = subst (λ names. AddsNames (names_of files) [] (names_of names)) (sym same) AddsNames.none;
+    added = subst (λ names. AddsNames files [] names) (sym same) AddsNames.none;
     file = kept;
     from = refl;
     line = refl;
     small = marker.line_number.small;
-    few = let e = ap (λ names. length (names_of names)) same in omega (arith, e);
-    found = subst AreFound (sym same) found;
+    few = let e = ap (λ (names : List (List ℕ)). length names) same in omega (arith, e);
   }
 
 pub returns : goal.returns
 returns c =
     let bytes = c.args.text.bytes.now in
     let token = c.args.token.now in
-    let files = c.args.files.now in
-    let more = c.match-marker.files in
+    let files = names_of c.args.files.now in
+    let more = names_of c.match-marker.files in
     let marker = c.marker_of-marker.ensures in
     elim c.match-marker.branch [
       | in-Some+in_ok-file-in-Some w ↦
-          let names = sym w.files-is in
+          let names = sym (ap (λ set. names_of set) w.files-is) in
           let mentions = subst (λ n. Mentions files more w.in-Some.name.now n) (sym w.file-is)
           (subst (λ set. Mentions files set w.in-Some.name.now w.in_ok-file-in-Some.file) names w.in_ok-file-in-Some.ensures) in
           with_name bytes token files more c.args.before c.match-marker.file c.marker_of-marker.result.line c.marker_of-marker.result.file marker
           w.in-Some.name w.in-Some.is mentions
       | in-None w ↦
           without_name bytes token files more c.args.before c.match-marker.file c.marker_of-marker.result.line c.marker_of-marker.result.file marker
-          w.in-None.is w.files-is w.file-is c.requires.found
+          w.in-None.is (ap (λ set. names_of set) w.files-is) w.file-is
     ]

@@ -22,17 +22,16 @@ loop-token-init c =
     let names = names_of c.mention.new.self in
     let file = c.in_ok-file.file in
     let first = c.as_bytes.ensures.value in
-    let mentions = subst (λ n. Mentions c.new-files.result c.mention.new.self n file) first c.in_ok-file.ensures in
-    let added = subst (λ old. AddsNames old (name ∷ []) names) c.new-files.ensures.none mentions.added in
+    let mentions = subst (λ n. Mentions (names_of c.new-files.result) names n file) first c.in_ok-file.ensures in
+    let added = subst (λ old. AddsNames old (name ∷ []) names) c.new-files.ensures mentions.added in
     let start : Presumption = record { file = file; from = 1; line = 1 } in
     let few = mentions.few in
-    let none = ap length c.new-files.ensures.none in
+    let none = ap length c.new-files.ensures in
     record {
       walked = walked_as bytes name [] [] [] c.new-places.result.items names names start start
           (walked_none bytes name names file added mentions.stands) refl c.new-places.ensures.items refl refl;
       one_each = grind (arith, common_steps);
       few = omega (arith, none);
-      found = mentions.found;
       small = omega arith;
     }
 
@@ -84,7 +83,6 @@ loop-token-preserved c =
             walked = walked_as bytes name _ _ _ _ _ _ after c.if-eq.presumption step more grown (ap (λ set. names_of set) w.files-is) w.presumption-is;
             one_each = one_each;
             few = rw w.files-is (omega arith);
-            found = rw w.files-is b.found;
             small = rw w.presumption-is small;
           }
       | else-eq w ↦
@@ -95,7 +93,6 @@ loop-token-preserved c =
             walked = walked_as bytes name _ _ _ _ _ _ before c.if-eq.presumption step more grown (ap (λ set. names_of set) w.files-is) w.presumption-is;
             one_each = one_each;
             few = rw w.files-is (omega arith);
-            found = rw w.files-is c.loop-token.invariant.found;
             small = rw w.presumption-is c.loop-token.invariant.small;
           }
     ]

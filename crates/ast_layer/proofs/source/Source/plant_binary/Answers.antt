@@ -58,7 +58,7 @@ loop-next-preserved c = λ closed closes.
     let b = c.plant_operand-in-loop-next.new.planter in
     let item = c.next-item.result in
     let planted =
-        subst (λ (r : Rank). Plants a b (leaf r.hang (operand_node file item.1 r))) c.argument.ensures c.in_ok-plant_operand-2.ensures in
+    subst (λ (r : Rank). Plants a b (leaf r.hang (operand_node file item.1 r))) c.argument.ensures c.in_ok-plant_operand-2.ensures in
     c.loop-next.invariant closed
     (closes_step a b c.leave.new.self closed file c.items-rest.result.now c.loop-next.next-index item c.loop-next-test.true c.next-item.is planted c.leave.ensures closes)
 

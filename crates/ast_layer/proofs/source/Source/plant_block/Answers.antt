@@ -17,6 +17,6 @@ returns c =
     let node : plain_node c.block.result ≡ block_node file (slice_get c.args.body.now.marks 0) = c.block.ensures ∙ ap (block_node file) brace in
     let enters = subst (λ (x : PlainNode). Enters c.args.planter.now c.enter.new.self Plain x) node c.in_ok-enter.ensures in
     let children =
-        subst (λ (l : List BlockItem). Plants c.enter.new.self c.plant_statements.new.planter (children_forest file 1 (expressions l))) c.items-2.ensures
-        c.in_ok-plant_statements.ensures in
+    subst (λ (l : List BlockItem). Plants c.enter.new.self c.plant_statements.new.planter (children_forest file 1 (expressions l))) c.items-2.ensures
+    c.in_ok-plant_statements.ensures in
     plants_branch _ _ _ _ _ _ _ enters children c.leave.ensures
