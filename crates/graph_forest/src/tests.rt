@@ -10,7 +10,7 @@ ghost use Rattle.graph_forest.specs.Planting.{Plants};
 
 use crate::{Hang, NewNode, Planter};
 use cpg_schema::{Caps, EdgeKind, Key, Label};
-use graph_delta::{Delta, apply};
+use graph_delta::{ApplyStop, Delta, apply};
 use graph_store::Graph;
 use std::alloc::{AllocError, Global};
 use std::hash::RandomState;
@@ -51,14 +51,19 @@ fn if_delta(alloc: Global, graph: &Graph) -> Result<Delta, AllocError>
     Ok(planter.finish())
 }
 
+fn plant_in(graph: &mut Graph, delta: &Delta) -> Result<(), ApplyStop>
+    requires { IsPlanted delta.now }
+{
+    apply(graph, delta)
+}
+
 #[test]
 fn each_way_to_hang_has_its_edges(rt: HostRuntime) -> Result<(), Fail> {
     let caps = Caps { nodes: 5, edges: 5 };
     let hashes = RandomState::new(&rt)?;
     let mut graph = Graph::new(rt.alloc(), caps, hashes)?;
     let delta = if_delta(rt.alloc(), &graph)?;
-    crate::laws::law_fits();
-    apply(&mut graph, &delta)?;
+    plant_in(&mut graph, &delta)?;
     let labels = [
         Label::ControlStructure,
         Label::Call,
@@ -67,8 +72,8 @@ fn each_way_to_hang_has_its_edges(rt: HostRuntime) -> Result<(), Fail> {
         Label::File,
     ];
     assert_eq!(rt; graph.len(), 5);
-    for (id, want) in (0..graph.len()).zip(labels) {
-        assert_eq!(rt; graph.node(id), want, "at {id}");
+    for id in 0..graph.len() {
+        assert_eq!(rt; labels.get(id as usize).copied(), Some(graph.node(id)), "at {id}");
     }
     let edges = [
         (0, EdgeKind::Ast, 1),
