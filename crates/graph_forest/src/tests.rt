@@ -73,7 +73,11 @@ fn each_way_to_hang_has_its_edges(rt: HostRuntime) -> Result<(), Fail> {
     ];
     assert_eq!(rt; graph.len(), 5);
     for id in 0..graph.len() {
-        assert_eq!(rt; labels.get(id as usize).copied(), Some(graph.node(id)), "at {id}");
+        assert_eq!(rt;
+            labels.get(id as usize).copied(),
+            Some(graph.node(id)),
+            "at {id}"
+        );
     }
     let edges = [
         (0, EdgeKind::Ast, 1),
