@@ -112,8 +112,9 @@ impl Delta {
         Ok(())
     }
 
-    /// Sets a property at a node. At a new node it stands in place of one of this key that the delta
-    /// set there; of a node of the graph it is kept beside it, and such a delta fits no graph.
+    /// Sets a property at a node. At a new node it stands in place of one of this key that the
+    /// delta set there; at a node of the graph it is kept beside that one, and such a delta fits no
+    /// graph.
     pub fn set(&mut self, at: End, key: Key, value: Value) -> Result<(), AllocError>
         requires end { IsNewEnd (length self.old.nodes) at }
         requires form { HasForm key (property_of value) }
