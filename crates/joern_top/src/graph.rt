@@ -42,7 +42,7 @@ pub(crate) fn build_graph(alloc: Global, source: Source) -> Result<BuiltGraph, A
         nodes: MAX_NODES,
         edges: MAX_EDGES,
     };
-    let hashes = name_hashes(&source)?;
+    let hashes = name_hashes(alloc, &source)?;
     let empty = Graph::new(alloc, caps, hashes)?;
     let pass = first_pass(alloc, source)?;
     let graph = run_pass_one(alloc, &pass, empty)?;
