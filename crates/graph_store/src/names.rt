@@ -70,6 +70,7 @@ impl Names {
     }
 
     /// The name of this number, where there is one.
+    #[inline(always)]
     pub(crate) fn text(&self, number: u32) -> Option<&[u8]>
         ensures { option_copied result ≡ slice_get self.now number }
     {
@@ -80,6 +81,7 @@ impl Names {
     }
 
     /// The number of a name, which is added at the end if it is new.
+    #[inline(never)]
     pub(crate) fn number_of(&mut self, name: &[u8]) -> Result<u32, AllocError>
         ensures stored { IfOk result (λ number. slice_get self.new number ≡ Some name.now) }
         ensures adds { Adds self.old self.new }
@@ -124,6 +126,7 @@ impl Names {
     }
 
     /// The number of a name by the keyed hash, where the name is added at the end if it is new.
+    #[inline(never)]
     fn pooled(&mut self, name: &[u8]) -> Result<u32, AllocError>
         ensures stored { IfOk result (λ number. slice_get self.new number ≡ Some name.now) }
         ensures adds { Adds self.old self.new }
