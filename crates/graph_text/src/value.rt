@@ -86,7 +86,9 @@ impl Printer {
     pub(crate) fn number<S: Sink>(&mut self, sink: &mut S, n: u32)
         ensures { Prints (S.state sink.old, self.old) (S.state sink.new, self.new) (decimal n) }
     {
-        if self.room() >= MOST_DIGITS {
+        if n < 10 {
+            self.text(sink, &[b'0' + n as u8]);
+        } else if self.room() >= MOST_DIGITS {
             self.keep_number(n);
         } else {
             self.flush(sink);
