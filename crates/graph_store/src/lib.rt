@@ -2,6 +2,7 @@
 //! deltas that are added to it.
 #![tactic(auto)]
 
+mod absorbing;
 mod applying;
 mod delta;
 mod delta_row;
@@ -12,7 +13,8 @@ mod node_row;
 #[cfg(test)]
 mod tests;
 
-pub use applying::{ApplyStop, absorb, apply};
+pub use absorbing::absorb;
+pub use applying::{ApplyStop, apply};
 pub use delta::{Delta, Value};
 pub use edge::Edge;
 pub use graph::Graph;

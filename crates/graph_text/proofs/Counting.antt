@@ -51,9 +51,9 @@ digits_put old new ds w r same within before written =
     let front : take w new ≡ take w old = subst (λ k. take k new ≡ take k old) same before in
     let rest : drop w new ≡ ds ++ last = subst (λ k. drop k new ≡ ds ++ last) same written in
     let whole : new ≡ take w old ++ (ds ++ last) =
-        sym (take-append-drop w new)
-        ∙ ap (λ xs. xs ++ drop w new) front
-        ∙ ap (λ ys. take w old ++ ys) rest in
+    sym (take-append-drop w new)
+    ∙ ap (λ xs. xs ++ drop w new) front
+    ∙ ap (λ ys. take w old ++ ys) rest in
     let size : length (take w old) ≡ w = length-take-le w old within in
     ap (take (w + length ds)) whole
     ∙ ap (λ k. take (k + length ds) (take w old ++ (ds ++ last))) (sym size)

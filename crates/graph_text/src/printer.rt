@@ -100,9 +100,9 @@ impl Printer {
         ensures bytes { self.new.bytes ≡ self.old.bytes ++ decimal n }
         ensures failed { self.new.failed ≡ self.old.failed }
     {
-        let end = self.waiting + digit_count(n);
-        write_digits(n as u64, &mut self.buffer, end);
-        self.waiting = end;
+        let past = self.waiting + digit_count(n);
+        write_digits(n as u64, &mut self.buffer, past);
+        self.waiting = past;
     }
 
     /// Writes a text past the buffer, in which nothing waits.

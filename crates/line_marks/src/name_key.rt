@@ -42,9 +42,7 @@ pub(crate) fn hashes_of(text: SourceText<'_>, tokens: &[Token]) -> Result<Random
     let mut said = Sha512::new();
     for token in tokens {
         if token.kind == Kind::Line {
-            said.update(from_quote(
-                &text.bytes[token.start as usize..token.end as usize],
-            ));
+            said.update(from_quote(&text.bytes[token.start as usize..token.end as usize]));
         }
     }
     let key = NameKey {

@@ -2,8 +2,8 @@ use Rattle.std.proofs.Common.{◌<◌, refl, arith}
 use Rattle.graph_store.specs.Stored.{plain}
 use Rattle.pass_runner.proofs.runner.run_only_part.Goals as goal
 
-pub apply-requires : goal.apply-requires
-apply-requires g c =
+pub absorb-requires : goal.apply-requires
+absorb-requires g c =
     let graph = c.args.graph.now in
     let one = c.requires.one in
     let within : 0 < g.P.Pass.parts_of c.args.pass.now (plain graph) = omega (arith, one) in

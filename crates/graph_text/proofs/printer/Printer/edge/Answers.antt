@@ -9,10 +9,10 @@ returns g c =
     let front = codes "edge " ++ decimal c.args.edge.now.from in
     let name = kind_name c.args.edge.now.kind in
     let P : List ℕ → Type 0 = λ text. Prints (g.S.Sink.state c.args.sink.now, c.args.self.now)
-        (g.S.Sink.state c.kind.new.sink, c.kind.new.self) text in
+    (g.S.Sink.state c.kind.new.sink, c.kind.new.self) text in
     let begun = subst P
-        (sym (append_assoc front (codes " " ++ name) (codes " "))
-        ∙ ap (λ xs. xs ++ codes " ") (sym (append_assoc front (codes " ") name)))
-        (Prints-then (Prints-then c.text.ensures c.number.ensures) c.kind.ensures) in
+    (sym (append_assoc front (codes " " ++ name) (codes " "))
+    ∙ ap (λ xs. xs ++ codes " ") (sym (append_assoc front (codes " ") name)))
+    (Prints-then (Prints-then c.text.ensures c.number.ensures) c.kind.ensures) in
     Prints-then (Prints-then (Prints-then begun c.number-2.ensures)
     (rw c.variable_name.ensures at c.variable.ensures)) c.text-2.ensures

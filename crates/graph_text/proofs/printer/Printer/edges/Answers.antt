@@ -1,8 +1,6 @@
-use Rattle.std.proofs.Common.{◌≡◌, List, map, get_or, Some}
-use Rattle.std.specs.Prelude.{slice_get}
+use Rattle.std.proofs.Common.{map, get_or}
 use Rattle.std.proofs.lemmas.Option.{slice_get-get_or}
 use Rattle.cpg_schema.specs.declared.edge_kind.EdgeKind.TheVariants.{Ast}
-use Rattle.cpg_schema.specs.Graph.{PlainEdge}
 use Rattle.cpg_schema.specs.Lines.{edge_line}
 use Rattle.graph_store.specs.declared.edge.Edge.{Edge}
 use Rattle.graph_store.specs.Stored.{plain_edge}

@@ -1,6 +1,6 @@
 use Rattle.graph_store.specs.Rows.{renumbered}
 use Rattle.graph_store.proofs.Renumbering.{one_more}
-use Rattle.graph_store.proofs.applying.renumber_all.Goals as goal
+use Rattle.graph_store.proofs.absorbing.renumber_all.Goals as goal
 
 pub loop-node-preserved : goal.loop-node-preserved
 loop-node-preserved c =

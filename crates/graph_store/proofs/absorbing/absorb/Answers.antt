@@ -10,7 +10,7 @@ use Rattle.graph_store.specs.GrownRows.{rows_with_settings, edge_of_row}
 use Rattle.graph_store.proofs.Among.{set_within}
 use Rattle.graph_store.proofs.Growing.{length-rows_with_settings}
 use Rattle.graph_store.proofs.Applied.{applied_kept, kept_after, ends_small}
-use Rattle.graph_store.proofs.applying.absorb.Goals as goal
+use Rattle.graph_store.proofs.absorbing.absorb.Goals as goal
 
 pub set_all-requires : goal.set_all-requires
 set_all-requires c =
