@@ -7,6 +7,7 @@ ghost use Rattle.pass_runner.specs.Runs.{GrowsByParts};
 
 use graph_delta::{ApplyStop, Pass, apply};
 use graph_store::Graph;
+use graph_store::laws::law_stored;
 use std::alloc::Global;
 
 /// The graph with all parts of a pass, one after another.
@@ -48,6 +49,7 @@ fn run_only_part<P: Pass>(alloc: Global, pass: &P, graph: &mut Graph) -> Result<
         seq graph.old.caps (plain graph.old) (P.delta_of pass.now (plain graph.old)) 1
         ≡ Err Cap.edges }
 {
+    law_stored(graph);
     let ready = pass.prepare(alloc, graph)?;
     let delta = pass.delta(alloc, graph, &ready, 0)?;
     apply(graph, &delta)
@@ -71,6 +73,7 @@ fn run_parts<P: Pass>(
         seq start.now.caps (plain start.now) (P.delta_of pass.now (plain start.now))
         (P.parts_of pass.now (plain start.now)) ≡ Err Cap.edges }
 {
+    law_stored(start);
     let ready = pass.prepare(alloc, start)?;
     for part in 0..pass.parts(start) {
         let delta = pass.delta(alloc, start, &ready, part)?;
