@@ -39,6 +39,6 @@ returns-clause-side g c =
     let len = c.in_ok-side.ensures.len in
     let count : length c.deref.result.now - 1 ≡ c.args.count = omega arith in
     let rows = subst (λ (n : ℕ). AreRows near far graph.names n graph.edges now) count c.sort_rows.ensures.rows in
-    let cuts = subst (λ (edges : List Edge). AreStarts near edges side.starts.items) c.edges.ensures.edges c.in_ok-side.ensures.starts in
+    let cuts = subst (λ (edges : List Edge). AreStarts near edges side.starts.items) c.edges.ensures c.in_ok-side.ensures.starts in
     subst (IsSide near side.starts.items) (sym is)
     (is_side near far graph.names c.args.count graph.edges now c.requires.within rows c.sort_rows.ensures.same side.starts.items len cuts)
