@@ -1,6 +1,7 @@
 //! A pass by one worker.
 
 ghost use Rattle.std.specs.Prelude.{◌≡◌, Err, IfOk, OnOk};
+ghost use Rattle.cpg_schema.specs.Fitting.{IsGraph};
 ghost use Rattle.cpg_schema.specs.Sequence.{Cap, seq};
 ghost use Rattle.graph_store.specs.Stored.{plain};
 ghost use Rattle.pass_runner.specs.Runs.{GrowsByParts};
@@ -26,6 +27,7 @@ pub fn run_pass_one<P: Pass>(alloc: Global, pass: &P, graph: Graph) -> Result<Gr
     ensures too_many_edges { result ≡ Err ApplyStop.TooManyEdges → seq graph.caps (plain graph)
         (P.delta_of pass.now (plain graph)) (P.parts_of pass.now (plain graph)) ≡ Err Cap.edges }
 {
+    law_stored(&graph);
     let mut grown = graph;
     if pass.parts(&grown) == 1 {
         run_only_part(alloc, pass, &mut grown)?;
@@ -38,6 +40,7 @@ pub fn run_pass_one<P: Pass>(alloc: Global, pass: &P, graph: Graph) -> Result<Gr
 
 /// Adds the one part of a pass to a graph.
 fn run_only_part<P: Pass>(alloc: Global, pass: &P, graph: &mut Graph) -> Result<(), ApplyStop>
+    requires is_graph { IsGraph (plain graph.old) }
     requires takes { P.takes pass.now (plain graph.old) }
     requires one { P.parts_of pass.now (plain graph.old) ≡ 1 }
     ensures ok { OnOk result (GrowsByParts graph.old graph.new
@@ -49,7 +52,6 @@ fn run_only_part<P: Pass>(alloc: Global, pass: &P, graph: &mut Graph) -> Result<
         seq graph.old.caps (plain graph.old) (P.delta_of pass.now (plain graph.old)) 1
         ≡ Err Cap.edges }
 {
-    law_stored(graph);
     let ready = pass.prepare(alloc, graph)?;
     let delta = pass.delta(alloc, graph, &ready, 0)?;
     apply(graph, &delta)
@@ -62,6 +64,7 @@ fn run_parts<P: Pass>(
     start: &Graph,
     graph: &mut Graph,
 ) -> Result<(), ApplyStop>
+    requires is_graph { IsGraph (plain start.now) }
     requires takes { P.takes pass.now (plain start.now) }
     requires equal { graph.old ≡ start.now }
     ensures ok { OnOk result (GrowsByParts start.now graph.new
@@ -73,7 +76,6 @@ fn run_parts<P: Pass>(
         seq start.now.caps (plain start.now) (P.delta_of pass.now (plain start.now))
         (P.parts_of pass.now (plain start.now)) ≡ Err Cap.edges }
 {
-    law_stored(start);
     let ready = pass.prepare(alloc, start)?;
     for part in 0..pass.parts(start) {
         let delta = pass.delta(alloc, start, &ready, part)?;

@@ -10,5 +10,5 @@ apply-requires g c =
     let one = c.requires.one in
     let within : 0 < g.P.Pass.parts_of pass start = omega (arith, one) in
     let fits : PartsFit start (g.P.Pass.delta_of pass start) (g.P.Pass.parts_of pass start) =
-    g.met.P.Pass.fits pass start c.law_stored.ensures.is_graph c.requires.takes in
+    g.met.P.Pass.fits pass start c.requires.is_graph c.requires.takes in
     rw c.in_ok-delta.ensures (fits.each 0 within)

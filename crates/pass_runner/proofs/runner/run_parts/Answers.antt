@@ -15,7 +15,7 @@ apply-requires g c =
     let parts : c.parts-part-end.result ≡ g.P.Pass.parts_of pass start = c.parts-part-end.ensures in
     let within : c.loop-part.part < g.P.Pass.parts_of pass start = omega (arith, parts, c.loop-part.invariant.end) in
     let fits : PartsFit start (g.P.Pass.delta_of pass start) (g.P.Pass.parts_of pass start) =
-    g.met.P.Pass.fits pass start c.law_stored.ensures.is_graph c.requires.takes in
+    g.met.P.Pass.fits pass start c.requires.is_graph c.requires.takes in
     rw c.in_ok-delta.ensures
     (fits_after c.args.start.now.caps start (g.P.Pass.delta_of pass start) (g.P.Pass.parts_of pass start) fits c.loop-part.part within (plain c.loop-part.graph)
     c.loop-part.invariant.so_far)
