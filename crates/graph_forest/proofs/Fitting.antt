@@ -21,7 +21,7 @@ module _ (P : NewEdge → Type 0) (holds : (parent child : ℕ) (kind : EdgeKind
   each_to : (parent : Option ℕ) (h : Hang) (child : ℕ) → All P (edges_to parent h child)
   each_to None h child = All-nil P
   each_to (Some p) Plain child = All-cons P (edge_between p child edge_kind.Ast) [] (holds p child edge_kind.Ast) (All-nil P)
-  each_to (Some p) Argument child =
+  each_to (Some p) (Argument i) child =
       All-cons P (edge_between p child edge_kind.Ast) (edge_between p child edge_kind.Argument ∷ []) (holds p child edge_kind.Ast)
       (All-cons P (edge_between p child edge_kind.Argument) [] (holds p child edge_kind.Argument) (All-nil P))
   each_to (Some p) Condition child =
@@ -124,7 +124,7 @@ module _ (nodes : List PlainNode) (s : ℕ) where
   among_to (Some p) None h child n parent is t = absurd parent
   among_to (Some p) (Some l) Plain child n parent is t =
       All-cons (IsEdgeAmong nodes) (added_edge s (edge_between p child edge_kind.Ast)) [] (among_one p child edge_kind.Ast l n parent is t) (All-nil (IsEdgeAmong nodes))
-  among_to (Some p) (Some l) Argument child n parent is t = among_both p child edge_kind.Argument l n parent is t
+  among_to (Some p) (Some l) (Argument i) child n parent is t = among_both p child edge_kind.Argument l n parent is t
   among_to (Some p) (Some l) Condition child n parent is t = among_both p child edge_kind.Condition l n parent is t
 
   all_append : (xs ys : List NewEdge) → All (IsEdgeAmong nodes) (map (added_edge s) xs) → All (IsEdgeAmong nodes) (map (added_edge s) ys) →

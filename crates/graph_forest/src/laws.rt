@@ -1,7 +1,7 @@
 //! Laws of forests: how they are planted, what a delta that adds one keeps, and how many nodes and
 //! edges it adds.
 
-ghost use Rattle.std.specs.Prelude.{ℕ, ◌≡◌, ◌+◌, ◌*◌, ◌<◌, ◌≤◌, length, Ok, Option};
+ghost use Rattle.std.specs.Prelude.{ℕ, ◌≡◌, ◌↔◌, ◌+◌, ◌*◌, ◌<◌, ◌≤◌, length, Ok, Option, Some};
 ghost use Rattle.cpg_schema.specs.declared.caps.Caps.{Caps};
 ghost use Rattle.cpg_schema.specs.Graph.{PlainGraph, PlainNode};
 ghost use Rattle.cpg_schema.specs.Deltas.{PlainDelta, applied};
@@ -9,6 +9,9 @@ ghost use Rattle.cpg_schema.specs.Fitting.{Fits, IsGraph, PartsFit};
 ghost use Rattle.cpg_schema.specs.Sequence.{seq};
 ghost use Rattle.cpg_schema.specs.Shape.{IsShaped};
 ghost use Rattle.graph_forest.specs.declared.hang.Hang.{Hang as How};
+ghost use Rattle.graph_forest.specs.declared.hang.Hang.TheVariants.{Argument};
+ghost use Rattle.graph_forest.specs.declared.rank.Rank.{Rank as Place};
+ghost use Rattle.graph_forest.specs.Ranks.{argument_index};
 ghost use Rattle.graph_forest.specs.Forest.{Forest, none, beside, branch, planted};
 ghost use Rattle.graph_forest.specs.Forest.{nodes_of, edges_of, IsPlanted};
 ghost use Rattle.graph_forest.specs.Planting.{Planting, Enters, Leaves, Plants, fresh};
@@ -43,6 +46,12 @@ pub fn law_stays_shaped()
         ((part : ℕ) → part < parts → IsPlanted (delta_of part)) → IsGraph start →
         IsShaped start → (graph : PlainGraph) → seq caps start delta_of parts ≡ Ok graph →
         IsShaped graph }
+{}
+
+/// A node has an ARGUMENT_INDEX exactly where it hangs as the argument of that index.
+pub fn law_argument_index()
+    ensures { (rank : Place) (index : ℕ) →
+        (argument_index rank ≡ Some index) ↔ (rank.hang ≡ Argument index) }
 {}
 
 /// Forests beside one another have the nodes of both, and a forest has at most two edges a node.
