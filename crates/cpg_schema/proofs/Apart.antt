@@ -1,5 +1,5 @@
 -- Settings of which there is none, or one, set no key twice; so do the parts of which none sets any.
-use Rattle.std.proofs.Common.{◌≡◌, ℕ, zero, suc, ◌<◌, List, [], ◌∷◌, Some, length, slice_get, refl, subst, arith}
+use Rattle.std.proofs.Common.{◌≡◌, ℕ, zero, suc, ◌<◌, List, [], ◌∷◌, Some, slice_get, refl, subst, arith}
 use Rattle.std.specs.List.{Contains}
 use Rattle.cpg_schema.specs.Graph.{PlainGraph}
 use Rattle.cpg_schema.specs.Deltas.{Setting, PlainDelta}

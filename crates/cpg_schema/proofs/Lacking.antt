@@ -1,5 +1,5 @@
 -- A property that a node is given leaves it without those that it lacks otherwise.
-use Rattle.std.proofs.Common.{◌≡◌, ℕ, List, Option, None, refl, ◌∙◌}
+use Rattle.std.proofs.Common.{◌≡◌, ℕ, List, refl, ◌∙◌}
 use Rattle.cpg_schema.specs.declared.key.Key.{Key}
 use Rattle.cpg_schema.specs.declared.key.Key.TheVariants.{Name, Code, Filename, LineNumber, Order, ArgumentIndex, TypeFullName, ControlStructureType, Linkage}
 use Rattle.cpg_schema.specs.Graph.{PlainNode}

@@ -8,8 +8,8 @@ use Rattle.cpg_schema.specs.Names.{kind_rank}
 use Rattle.cpg_schema.specs.Graph.{PlainNode}
 use Rattle.cpg_schema.specs.Fitting.{IsEdgeAmong}
 use Rattle.graph_store.specs.declared.edge.Edge.{Edge}
-use Rattle.graph_store.specs.Stored.{StoredGraph, IsStored, plain, plain_edge}
-use Rattle.edge_index.specs.Indexed.{Indexed, IsIndexOf, IsWithin, LendsWithin, out_edges, into_edges}
+use Rattle.graph_store.specs.Stored.{StoredGraph, IsStored, plain_edge}
+use Rattle.edge_index.specs.Indexed.{Indexed, IsIndexOf, IsWithin, LendsWithin}
 
 pub from_within : (names : List (List ℕ)) (nodes : List PlainNode) (edges : List Edge) → All (IsEdgeAmong nodes) (map (plain_edge names) edges) →
     All (λ (e : Edge). e.from < length nodes) edges

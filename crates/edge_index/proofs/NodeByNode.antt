@@ -1,17 +1,17 @@
 -- The edges that leave each node, one node after another and one kind after another, are all edges in order.
-use Rattle.std.proofs.Common.{◌≡◌, ℕ, zero, suc, ◌+◌, ◌<◌, ◌≤◌, ◌==◌, ◌&&◌, List, [], ◌∷◌, ◌++◌, filter, length, map, get_or, refl, ap, sym, subst, ◌∙◌, arith}
+use Rattle.std.proofs.Common.{◌≡◌, ℕ, zero, suc, ◌+◌, ◌<◌, ◌==◌, ◌&&◌, List, [], ◌∷◌, ◌++◌, filter, length, map, get_or, refl, ap, sym, subst, ◌∙◌, arith}
 use Rattle.std.specs.List.{All, flat_map, range_with_len}
 use Rattle.std.specs.List.Sorted.{IsNonDecreasingBy}
 use Rattle.std.proofs.lemmas.List.{append-nil, append_assoc, length-map, get_or-map}
 use Rattle.std.proofs.lemmas.List.Sorted.{All-permutation}
 use Rattle.cpg_schema.specs.declared.edge_kind.EdgeKind.{EdgeKind}
 use Rattle.cpg_schema.specs.declared.edge_kind.EdgeKind.TheVariants as edge_kind
-use Rattle.cpg_schema.specs.Names.{all_kinds, kind_rank}
+use Rattle.cpg_schema.specs.Names.{kind_rank}
 use Rattle.cpg_schema.specs.Graph.{PlainEdge}
 use Rattle.cpg_schema.specs.Order.{in_order}
 use Rattle.graph_store.specs.declared.edge.Edge.{Edge}
 use Rattle.graph_store.specs.Stored.{StoredGraph, IsStored, plain, plain_edge}
-use Rattle.edge_index.specs.Indexed.{Indexed, IsIndexOf, out_edges, node_edges, all_edges}
+use Rattle.edge_index.specs.Indexed.{Indexed, IsIndexOf, node_edges, all_edges}
 use Rattle.edge_index.specs.Rows.{edges_at}
 use Rattle.edge_index.proofs.Cuts.{at_key, grouped_by, grouped_by_same, filter-filter, filter-map}
 use Rattle.edge_index.proofs.Ends.{from_within}
@@ -72,8 +72,10 @@ module _ (graph : StoredGraph) (index : Indexed) (stored : IsStored graph) (h : 
       let up = subst (IsNonDecreasingBy (λ (e : PlainEdge). e.from)) (sym h.leaving.order) (from_rises (map (plain_edge graph.names) graph.edges))
       i j (plain_edge graph.names d) le (omega arith) in
       let low_too : i < length index.leaving = omega arith in
-      rw (get_or-map (plain_edge graph.names) index.leaving i d (plain_edge graph.names d) low_too,
-      get_or-map (plain_edge graph.names) index.leaving j d (plain_edge graph.names d) low) at up
+      rw (
+        get_or-map (plain_edge graph.names) index.leaving i d (plain_edge graph.names d) low_too,
+        get_or-map (plain_edge graph.names) index.leaving j d (plain_edge graph.names d) low,
+      ) at up
 
   -- and these are nodes
   leaving_within : All (λ (e : Edge). e.from < index.node_count) index.leaving

@@ -22,7 +22,7 @@ pub fn law_node_edges()
 /// The edges that leave each node, one node after another and within a node one kind after another,
 /// are all edges that the index lends: the plain graph's, in the order of printing.
 pub fn law_all_edges()
-    ensures same { (graph : StoredGraph) (index : Indexed) → IsStored graph →
+    ensures leaving { (graph : StoredGraph) (index : Indexed) → IsStored graph →
         IsIndexOf graph index → all_edges index ≡ index.leaving }
     ensures printed { (graph : StoredGraph) (index : Indexed) → IsStored graph →
         IsIndexOf graph index →

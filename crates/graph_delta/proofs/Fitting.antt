@@ -52,6 +52,7 @@ grown_setting start nodes IsSet s set h = record {
     label : (n : ℕ) (y z : PlainNode) → (z ≡ y) ⊎ ((s.node ≡ n) × (z ≡ with_property s.key s.value y)) → z.label ≡ y.label
     label n y z (inl e) = ap (λ (p : PlainNode). p.label) e
     label n y z (inr e) = ap (λ (p : PlainNode). p.label) e.1 ∙ property_label s.key s.value y
+
     lacking : (n : ℕ) (y z : PlainNode) → (z ≡ y) ⊎ ((s.node ≡ n) × (z ≡ with_property s.key s.value y)) →
         (key : Key) → ¬ IsSet n key → LacksKey key y → LacksKey key z
     lacking n y z (inl e) key unset lacks = subst (LacksKey key) (sym e) lacks

@@ -3,7 +3,7 @@ use Rattle.std.proofs.Common.{◌≡◌, List, [], map, length, ◌++◌, sym, s
 use Rattle.std.specs.List.{All}
 use Rattle.std.proofs.lemmas.List.Elements.{All-nil}
 use Rattle.cpg_schema.specs.Graph.{PlainGraph}
-use Rattle.cpg_schema.specs.Deltas.{PlainDelta, NewEdge, Setting, added_edge}
+use Rattle.cpg_schema.specs.Deltas.{PlainDelta, NewEdge, added_edge}
 use Rattle.cpg_schema.specs.Fitting.{Fits, IsEdgeAmong, IsOldEnd, IsNewSetting, AreApart}
 use Rattle.cpg_schema.proofs.Apart.{apart_none}
 

@@ -56,7 +56,7 @@ pub trait Pass {
     ) -> Result<Delta, AllocError>
         requires takes { takes self.now (plain graph.now) }
         requires ready { is_ready self.now graph.now ready.now }
-        requires part { part < parts_of self.now (plain graph.now) }
+        requires inside { part < parts_of self.now (plain graph.now) }
         ensures { IfOk result (λ delta. delta ≡ delta_of self.now (plain graph.now) part) };
 
     // Each part's delta fits the graph as it is at the start, and no two set one key at one node.

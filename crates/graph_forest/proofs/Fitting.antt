@@ -1,12 +1,12 @@
 -- A planted forest that is allowed fits every graph.
-use Rattle.std.proofs.Common.{◌≡◌, ℕ, zero, suc, ◌+◌, ◌<◌, ◌&&◌, Bool, true, false, IsTrue, List, [], ◌∷◌, ◌++◌, length, map, slice_get, Option, Some, None, inr, refl, ap, sym, subst, ◌∙◌, arith}
+use Rattle.std.proofs.Common.{◌≡◌, ℕ, ◌+◌, ◌<◌, ◌&&◌, Bool, true, false, IsTrue, List, [], ◌∷◌, ◌++◌, length, map, slice_get, Option, Some, None, inr, refl, ap, sym, subst, ◌∙◌, arith}
 use Rattle.std.specs.List.{All}
 use Rattle.std.proofs.lemmas.List.{append-nil, append_assoc, length-append, length_push, map-append}
 use Rattle.std.proofs.lemmas.List.Elements.{All-nil, All-cons, All-append, All-same}
 use Rattle.cpg_schema.specs.declared.label.Label.{Label}
 use Rattle.cpg_schema.specs.declared.edge_kind.EdgeKind.{EdgeKind}
 use Rattle.cpg_schema.specs.declared.edge_kind.EdgeKind.TheVariants as edge_kind
-use Rattle.cpg_schema.specs.Graph.{PlainNode, PlainEdge, PlainGraph}
+use Rattle.cpg_schema.specs.Graph.{PlainNode, PlainGraph}
 use Rattle.cpg_schema.specs.Schema.{allows}
 use Rattle.cpg_schema.specs.Deltas.{NewEdge, PlainDelta, added_edge}
 use Rattle.cpg_schema.specs.Fitting.{Fits, IsOldEnd, IsEdgeAmong, PartsFit}

@@ -1,7 +1,7 @@
 -- A shaped graph stays shaped when allowed forests are planted.
-use Rattle.std.proofs.Common.{◌≡◌, ℕ, zero, suc, ◌+◌, ◌<◌, ◌≤◌, List, [], ◌∷◌, ◌++◌, Ok, length, map, slice_get, Some, None, refl, ap, sym, subst, ◌∙◌, arith}
+use Rattle.std.proofs.Common.{◌≡◌, ℕ, zero, suc, ◌+◌, ◌<◌, ◌≤◌, List, [], ◌∷◌, ◌++◌, Ok, length, map, slice_get, Some, None, sym, subst, arith}
 use Rattle.std.specs.List.{All}
-use Rattle.std.proofs.lemmas.List.Elements.{All-head, All-tail, All-append, All-weaker}
+use Rattle.std.proofs.lemmas.List.Elements.{All-head, All-tail}
 use Rattle.cpg_schema.specs.declared.caps.Caps.{Caps}
 use Rattle.cpg_schema.specs.Graph.{PlainNode, PlainEdge, PlainGraph, plain_graph}
 use Rattle.cpg_schema.specs.Deltas.{PlainDelta, applied, added_edge}
@@ -10,7 +10,7 @@ use Rattle.cpg_schema.proofs.Among.{applied_is_graph}
 use Rattle.cpg_schema.specs.Sequence.{seq}
 use Rattle.cpg_schema.specs.Shape.{IsAstEdgeAt, IsAbove, child as child_of, descendant as further, IsShaped}
 use Rattle.graph_delta.proofs.Sequencing.{seq_keeps}
-use Rattle.graph_forest.specs.Forest.{Forest, nodes_of, edges_of, planted, IsAllowed, IsPlanted}
+use Rattle.graph_forest.specs.Forest.{Forest, nodes_of, edges_of, planted, IsPlanted}
 use Rattle.graph_forest.proofs.Fitting.{planted_fits}
 use Rattle.graph_forest.proofs.Rising.{IsRising, lower, rises, rest_of_edges, no_edge, IsUp, at_rising, one_rising}
 

@@ -33,14 +33,14 @@ pub fn law_plants()
 
 /// A delta that adds an allowed forest fits every graph, and such deltas fit it as parts.
 pub fn law_fits()
-    ensures one { (graph : PlainGraph) (delta : PlainDelta) → IsPlanted delta → Fits graph delta }
+    ensures delta { (graph : PlainGraph) (delta : PlainDelta) → IsPlanted delta → Fits graph delta }
     ensures parts { (start : PlainGraph) (delta_of : ℕ → PlainDelta) (parts : ℕ) →
         ((part : ℕ) → part < parts → IsPlanted (delta_of part)) → PartsFit start delta_of parts }
 {}
 
 /// A shaped graph stays so when an allowed forest is added, and when each part of a pass adds one.
 pub fn law_stays_shaped()
-    ensures one { (graph : PlainGraph) (delta : PlainDelta) → IsPlanted delta → IsGraph graph →
+    ensures delta { (graph : PlainGraph) (delta : PlainDelta) → IsPlanted delta → IsGraph graph →
         IsShaped graph → IsShaped (applied graph delta) }
     ensures parts { (caps : Caps) (start : PlainGraph) (delta_of : ℕ → PlainDelta) (parts : ℕ) →
         ((part : ℕ) → part < parts → IsPlanted (delta_of part)) → IsGraph start →

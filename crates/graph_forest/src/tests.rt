@@ -86,7 +86,11 @@ fn each_way_to_hang_has_its_edges(rt: HostRuntime) -> Result<(), Fail> {
         Label::File,
     ];
     assert_eq!(rt; graph.len(), 6);
-    for (id, order, index) in [(1, None, None), (2, Some(1), Some(0)), (3, Some(2), Some(1))] {
+    for (id, order, index) in [
+        (1, None, None),
+        (2, Some(1), Some(0)),
+        (3, Some(2), Some(1)),
+    ] {
         assert!(rt; id < graph.len());
         assert_eq!(rt; graph.number(id, Key::Order), order, "at {id}");
         assert_eq!(rt; graph.number(id, Key::ArgumentIndex), index, "at {id}");

@@ -2,7 +2,7 @@
 use Rattle.std.proofs.Common.{◌≡◌, ℕ, ◌+◌, ◌<◌, ◌≤◌, List, [], ◌∷◌, ◌++◌, Some, length, map, slice_get, ap, sym, subst, ◌∙◌, arith}
 use Rattle.std.specs.List.{All}
 use Rattle.std.proofs.lemmas.List.{length-append, map-append, length-map}
-use Rattle.std.proofs.lemmas.List.Elements.{All-nil, All-weaker, All-append, All-same, All-head, All-tail, All-cons}
+use Rattle.std.proofs.lemmas.List.Elements.{All-nil, All-weaker, All-append, All-head, All-tail, All-cons}
 use Rattle.cpg_schema.specs.Graph.{PlainNode, PlainEdge}
 use Rattle.cpg_schema.specs.Deltas.{NewEdge, Setting, applied, with_settings, added_edge}
 use Rattle.cpg_schema.specs.Fitting.{Fits, IsGraph, IsNewSetting, IsOldEnd}

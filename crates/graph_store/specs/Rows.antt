@@ -1,7 +1,7 @@
 -- The rows of a graph, and what they stand for. A text is the number of a pooled name, and where
 -- there is none `NO_NAME`, which is past all names.
-use Rattle.std.specs.Prelude.{ℕ, ◌≡◌, ◌-◌, ◌^◌, ◌<◌, ◌≤◌, ◌⊎◌, Bool, if◌then◌else◌, List, [], Option}
-use Rattle.std.specs.Prelude.{Some, None, length, map, slice_get, slice_index_or}
+use Rattle.std.specs.Prelude.{ℕ, ◌≡◌, ◌-◌, ◌^◌, ◌<◌, ◌≤◌, ◌⊎◌, Bool, List, [], Option}
+use Rattle.std.specs.Prelude.{if◌then◌else◌, Some, None, length, map, slice_get, slice_index_or}
 use Rattle.std.specs.List.{All}
 use Rattle.cpg_schema.specs.declared.key.Key.{Key}
 use Rattle.cpg_schema.specs.declared.key.Key.TheVariants as key

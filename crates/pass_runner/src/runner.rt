@@ -42,7 +42,7 @@ pub fn run_pass_one<P: Pass>(alloc: Global, pass: &P, graph: Graph) -> Result<Gr
 fn run_only_part<P: Pass>(alloc: Global, pass: &P, graph: &mut Graph) -> Result<(), ApplyStop>
     requires is_graph { IsGraph (plain graph.old) }
     requires takes { P.takes pass.now (plain graph.old) }
-    requires one { P.parts_of pass.now (plain graph.old) ≡ 1 }
+    requires alone { P.parts_of pass.now (plain graph.old) ≡ 1 }
     ensures ok { OnOk result (GrowsByParts graph.old graph.new
         (P.delta_of pass.now (plain graph.old)) 1) }
     ensures too_many_nodes { result ≡ Err ApplyStop.TooManyNodes →

@@ -1,4 +1,4 @@
-use Rattle.std.proofs.Common.{◌≡◌, ◌↔◌, ℕ, Some, ap}
+use Rattle.std.proofs.Common.{◌≡◌, ◌↔◌, ℕ, Some}
 use Rattle.graph_forest.specs.declared.hang.Hang.{Hang}
 use Rattle.graph_forest.specs.declared.hang.Hang.TheVariants.{Plain, Argument, Condition}
 use Rattle.graph_forest.specs.Ranks.{index_of}

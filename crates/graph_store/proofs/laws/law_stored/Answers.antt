@@ -1,6 +1,6 @@
-use Rattle.std.proofs.Common.{length, List, ℕ, subst, arith}
+use Rattle.std.proofs.Common.{subst, arith}
 use Rattle.std.proofs.lemmas.List.{length-map}
-use Rattle.graph_store.specs.Stored.{StoredGraph, IsStored}
+use Rattle.graph_store.specs.Stored.{IsStored}
 use Rattle.graph_store.specs.Rows.{plain_node}
 use Rattle.graph_store.proofs.laws.law_stored.Goals as goal
 

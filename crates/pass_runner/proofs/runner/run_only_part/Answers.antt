@@ -7,7 +7,7 @@ pub apply-requires : goal.apply-requires
 apply-requires g c =
     let start = plain c.args.graph.now in
     let pass = c.args.pass.now in
-    let one = c.requires.one in
+    let one = c.requires.alone in
     let within : 0 < g.P.Pass.parts_of pass start = omega (arith, one) in
     let fits : PartsFit start (g.P.Pass.delta_of pass start) (g.P.Pass.parts_of pass start) =
     g.met.P.Pass.fits pass start c.requires.is_graph c.requires.takes in
