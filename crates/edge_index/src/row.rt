@@ -46,7 +46,9 @@ pub(crate) fn sort_row<D: Direction>(graph: &Graph, row: &mut [Edge])
     ensures permutation { IsPermutation row.old row.new }
 {
     law_only_order();
-    row.sort_unstable_by(|a, b| compare::<D>(graph, a, b));
+    if row.len() > 1 {
+        row.sort_unstable_by(|a, b| compare::<D>(graph, a, b));
+    }
 }
 
 /// Puts the edges of each node in order.

@@ -7,5 +7,5 @@ mod pass;
 mod tests;
 
 pub use cpg_schema::End;
-pub use graph_store::{ApplyStop, Delta, Value, apply};
+pub use graph_store::{ApplyStop, Delta, Value, absorb, apply};
 pub use pass::Pass;

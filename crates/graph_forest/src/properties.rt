@@ -36,6 +36,7 @@ pub(crate) fn add_node(delta: &mut Delta, node: &NewNode<'_>) -> Result<u64, All
 }
 
 /// Sets a text, if there is one, at a new node.
+#[inline(always)]
 fn add_text(
     delta: &mut Delta,
     position: u64,
@@ -55,6 +56,7 @@ fn add_text(
 }
 
 /// Sets a number likewise.
+#[inline(always)]
 fn add_number(
     delta: &mut Delta,
     position: u64,

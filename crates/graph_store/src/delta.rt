@@ -68,6 +68,7 @@ impl Delta {
     }
 
     /// Adds a node without properties. Returns its number among the new nodes.
+    #[inline(always)]
     pub fn node(&mut self, label: Label) -> Result<u64, AllocError>
         ensures number { IfOk result (λ number. number ≡ length self.old.nodes) }
         ensures ok { OnOk result (self.new ≡
@@ -84,6 +85,7 @@ impl Delta {
     }
 
     /// Adds an edge.
+    #[inline(always)]
     pub fn edge(
         &mut self,
         from: End,
@@ -128,6 +130,7 @@ impl Delta {
     }
 
     /// Sets a text likewise. A text that the delta has already takes no memory.
+    #[inline(always)]
     pub fn set_text(&mut self, at: End, key: Key, value: &[u8]) -> Result<(), AllocError>
         requires end { IsNewEnd (length self.old.nodes) at }
         requires form { IsTrue (not (is_number_key key)) }
@@ -148,6 +151,7 @@ impl Delta {
     }
 
     /// Sets a number likewise.
+    #[inline(always)]
     pub fn set_number(&mut self, at: End, key: Key, value: u32) -> Result<(), AllocError>
         requires end { IsNewEnd (length self.old.nodes) at }
         requires form { IsTrue (is_number_key key) }

@@ -68,6 +68,7 @@ impl Graph {
     }
 
     /// The label of a node.
+    #[inline(always)]
     pub fn node(&self, id: u32) -> Label
         requires { id < length self.now.nodes }
         ensures { option_map (λ node. node.label) (slice_get self.now.nodes id) ≡ Some result }
@@ -76,6 +77,7 @@ impl Graph {
     }
 
     /// The text that a node has of this key.
+    #[inline(always)]
     pub fn text(&self, id: u32, key: Key) -> Option<&[u8]>
         requires { id < length self.now.nodes }
         ensures { option_copied result ≡
@@ -85,6 +87,7 @@ impl Graph {
     }
 
     /// The number that a node has of this key.
+    #[inline(always)]
     pub fn number(&self, id: u32, key: Key) -> Option<u32>
         requires { id < length self.now.nodes }
         ensures { result ≡ option_and_then (number_of key) (slice_get self.now.nodes id) }

@@ -13,7 +13,7 @@ mod node_row;
 #[cfg(test)]
 mod tests;
 
-pub use applying::{ApplyStop, apply};
+pub use applying::{ApplyStop, absorb, apply};
 pub use delta::{Delta, Value};
 pub use edge::Edge;
 pub use graph::Graph;

@@ -1,24 +1,34 @@
 //! Pooled names.
 
 ghost use Rattle.std.specs.Prelude.{◌≡◌, ◌+◌, ◌<◌, ◌≤◌, ◌++◌, [], length, take, map, slice_get};
-ghost use Rattle.std.specs.Prelude.{slice_index_or, option_copied, IfOk, OnOk, OnErr};
+ghost use Rattle.std.specs.Prelude.{slice_index_or, option_copied, IfOk, IfSome, OnOk, OnErr, Some};
 ghost use Rattle.graph_store.specs.Pool.{Adds, AreDistinct, Numbers};
 ghost use Rattle.graph_store.specs.Rows.{IsNameOrNone};
 
 use indexmap::IndexSet;
 use std::alloc::{AllocError, Global};
-use std::hash::RandomState;
+use std::hash::{FoldHasher, Hasher, RandomState};
 use std::marker::Model;
 
 /// The number of no name.
 pub(crate) const NO_NAME: u32 = u32::MAX;
 
+/// How many places there are for names that were asked for lately.
+const PLACES: usize = 8192;
+
+/// A pool of fewer names has no such places.
+const FEW: usize = 64;
+
 /// Names, each kept once. Contracts see the list of them: a name's number is its position.
 ///
 /// They are hashed by SipHash with a key, so that who chooses the names can't have them collide.
+/// Before that a name is looked for at one place that a cheaper hash gives, where the number of one
+/// such name is remembered: it is compared, and who makes up names that share a place gains nothing
+/// but the keyed hash.
 #[derive(Drop)]
 pub(crate) struct Names {
     set: IndexSet<Vec<u8>, RandomState>,
+    recent: Vec<u32>,
 }
 
 impl Model for Names {
@@ -43,6 +53,7 @@ impl Names {
     {
         Names {
             set: IndexSet::with_hasher(alloc, hashes),
+            recent: Vec::new(alloc),
         }
     }
 
@@ -66,6 +77,7 @@ impl Names {
     }
 
     /// The name of this number, where there is one.
+    #[inline(always)]
     pub(crate) fn text(&self, number: u32) -> Option<&[u8]>
         ensures { option_copied result ≡ slice_get self.now number }
     {
@@ -76,7 +88,53 @@ impl Names {
     }
 
     /// The number of a name, which is added at the end if it is new.
+    #[inline(never)]
     pub(crate) fn number_of(&mut self, name: &[u8]) -> Result<u32, AllocError>
+        ensures stored { IfOk result (λ number. slice_get self.new number ≡ Some name.now) }
+        ensures adds { Adds self.old self.new }
+        ensures one { length self.new ≤ length self.old + 1 }
+        ensures few { length self.new ≤ NO_NAME }
+        ensures err { OnErr result (self.new ≡ self.old) }
+    {
+        let _ = &self.set;
+        let place = place_of(name);
+        if let Some(number) = self.remembered(place, name) {
+            return Ok(number);
+        }
+        let number = self.pooled(name)?;
+        self.remember(place, number);
+        Ok(number)
+    }
+
+    /// The number that is remembered at a place, if it is that of the name.
+    fn remembered(&self, place: usize, name: &[u8]) -> Option<u32>
+        ensures { IfSome result (λ number. slice_get self.now number ≡ Some name.now) }
+    {
+        let number = *self.recent.get(place)?;
+        if self.text(number)? == name {
+            Some(number)
+        } else {
+            None
+        }
+    }
+
+    /// Remembers a number at a place. Where memory is wanting, nothing is remembered.
+    fn remember(&mut self, place: usize, number: u32)
+        ensures { self.new ≡ self.old }
+    {
+        if place < self.recent.len() {
+            self.recent[place] = number;
+        } else if self.set.len() >= FEW {
+            let alloc = *self.set.allocator();
+            if let Ok(recent) = Vec::from_elem(alloc, number, PLACES) {
+                self.recent = recent;
+            }
+        }
+    }
+
+    /// The number of a name by the keyed hash, where the name is added at the end if it is new.
+    #[inline(never)]
+    fn pooled(&mut self, name: &[u8]) -> Result<u32, AllocError>
         ensures stored { IfOk result (λ number. slice_get self.new number ≡ Some name.now) }
         ensures adds { Adds self.old self.new }
         ensures one { length self.new ≤ length self.old + 1 }
@@ -153,6 +211,16 @@ impl Names {
         for name in self.set.as_slice() {
             set.insert_full(name.as_slice().to_vec(alloc)?)?;
         }
-        Ok(Names { set })
+        Ok(Names {
+            set,
+            recent: Vec::new(alloc),
+        })
     }
+}
+
+/// The place at which a name is remembered.
+fn place_of(name: &[u8]) -> usize {
+    let mut hasher = FoldHasher::default();
+    hasher.write(name);
+    hasher.finish() as usize % PLACES
 }

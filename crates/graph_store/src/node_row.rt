@@ -30,6 +30,7 @@ pub(crate) struct NodeRow {
 
 impl NodeRow {
     /// A node without properties.
+    #[inline(always)]
     pub(crate) fn bare(label: Label) -> NodeRow
         ensures { result ≡ record {
           label = label;
@@ -65,6 +66,7 @@ impl NodeRow {
     }
 
     /// The number of the text that the node has of this key.
+    #[inline(always)]
     pub(crate) fn text(&self, key: Key) -> u32
         ensures { result ≡ row_text key self.now }
     {
@@ -80,6 +82,7 @@ impl NodeRow {
     }
 
     /// Sets the text of this key, which is that of a text.
+    #[inline(always)]
     pub(crate) fn set_text(&mut self, key: Key, number: u32)
         ensures { self.new ≡ row_with_text key number self.old }
     {
@@ -95,6 +98,7 @@ impl NodeRow {
     }
 
     /// The number that the node has of this key.
+    #[inline(always)]
     pub(crate) fn number(&self, key: Key) -> Option<u32>
         ensures { (result ≡ number_of key (plain_node [] self.now)) }
     {
@@ -107,6 +111,7 @@ impl NodeRow {
     }
 
     /// Sets the number of this key, which is that of a number.
+    #[inline(always)]
     pub(crate) fn set_number(&mut self, key: Key, value: u32)
         ensures { self.new ≡ row_with_number key value self.old }
     {
@@ -144,6 +149,7 @@ impl NodeRow {
 }
 
 /// The number that stands for another.
+#[inline(always)]
 pub(crate) fn renumber(numbers: &[u32], number: u32) -> u32
     ensures { result ≡ slice_index_or numbers.now number NO_NAME }
 {

@@ -1,3 +1,4 @@
 mod Composing
+mod Counting
 mod Escaping
 mod LineByLine

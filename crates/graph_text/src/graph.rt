@@ -1,10 +1,11 @@
 //! The lines of a graph: its nodes, and then its edges.
 ghost use Rattle.std.specs.Prelude.{◌≡◌, ◌<◌, Some, flat_map, length, map, slice_get};
-ghost use Rattle.std.specs.Prelude.{OnOk, OnErr};
+ghost use Rattle.std.specs.Prelude.{codes, ◌++◌, OnOk, OnErr};
 ghost use Rattle.joern_io.specs.Sinks.{Takes, TakesPrefix};
 ghost use Rattle.cpg_schema.specs.Graph.{PlainNode};
 ghost use Rattle.cpg_schema.specs.Lines.{graph_lines, node_line, node_lines};
 ghost use Rattle.cpg_schema.specs.Lines.{edge_line, variable_text};
+ghost use Rattle.cpg_schema.specs.Names.{kind_name};
 ghost use Rattle.graph_store.specs.Stored.{plain, plain_edge};
 ghost use Rattle.edge_index.specs.Indexed.{IsIndexOf};
 ghost use Rattle.graph_text.specs.Printing.{Prints};
@@ -74,12 +75,27 @@ impl Printer {
     {
         self.text(sink, b"edge ");
         self.number(sink, edge.from);
-        self.text(sink, b" ");
-        self.verbatim(sink, edge.kind.name());
-        self.text(sink, b" ");
+        self.kind(sink, edge.kind);
         self.number(sink, edge.to);
         self.variable(sink, edge.kind, graph.variable_name(edge.variable));
         self.text(sink, b"\n");
+    }
+
+    /// Prints ` KIND `, of the kinds that are frequent in one piece.
+    #[inline(always)]
+    fn kind<S: Sink>(&mut self, sink: &mut S, kind: EdgeKind)
+        ensures { Prints (S.state sink.old, self.old) (S.state sink.new, self.new)
+            (codes " " ++ kind_name kind ++ codes " ") }
+    {
+        match kind {
+            EdgeKind::Ast => self.text(sink, b" AST "),
+            EdgeKind::Argument => self.text(sink, b" ARGUMENT "),
+            _ => {
+                self.text(sink, b" ");
+                self.verbatim(sink, kind.name());
+                self.text(sink, b" ");
+            }
+        }
     }
 
     /// Prints the variable of an edge, if it is one that has a variable.

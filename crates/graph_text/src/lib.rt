@@ -2,6 +2,7 @@
 //! memory.
 #![tactic(auto)]
 
+mod digits;
 mod graph;
 mod line;
 mod printer;

@@ -30,6 +30,7 @@ impl Printer {
     }
 
     /// Prints the text that a node has of this key, if it has one.
+    #[inline(always)]
     fn text_property<S: Sink>(&mut self, sink: &mut S, graph: &Graph, id: u32, key: Key)
         requires inside { id < length graph.now.nodes }
         ensures { Prints (S.state sink.old, self.old) (S.state sink.new, self.new)
@@ -42,6 +43,7 @@ impl Printer {
     }
 
     /// Prints the number that a node has of this key, if it has one.
+    #[inline(always)]
     fn number_property<S: Sink>(&mut self, sink: &mut S, graph: &Graph, id: u32, key: Key)
         requires inside { id < length graph.now.nodes }
         ensures { Prints (S.state sink.old, self.old) (S.state sink.new, self.new)
@@ -54,6 +56,7 @@ impl Printer {
     }
 
     /// Prints ` KEY=`.
+    #[inline(always)]
     fn key<S: Sink>(&mut self, sink: &mut S, key: Key)
         ensures { Prints (S.state sink.old, self.old) (S.state sink.new, self.new) (key_text key) }
     {
@@ -62,6 +65,7 @@ impl Printer {
 }
 
 /// ` KEY=`, in one piece: a line has four of them.
+#[inline(always)]
 fn text_of(key: Key) -> &'static str
     ensures { result.now ≡ key_text key }
 {

@@ -3,15 +3,14 @@ ghost use Rattle.std.specs.Prelude.{◌≡◌, ◌<◌, ◌≤◌, false, length
 ghost use Rattle.cpg_schema.specs.Values.{escape, escaped, hex_digit, is_plain};
 ghost use Rattle.graph_text.specs.Printing.{Prints};
 
-use crate::printer::Printer;
-use itoa::Buffer;
+use crate::printer::{MOST_DIGITS, Printer};
 use joern_io::Sink;
 
 /// Whether a byte stands for itself in a value.
 fn is_plain_byte(byte: u8) -> bool
     ensures { result ≡ is_plain byte }
 {
-    (0x21..=0x7E).contains(&byte) && byte != b'%'
+    byte >= 0x21 && byte <= 0x7E && byte != b'%'
 }
 
 /// One of `0` to `9` and `A` to `F`.
@@ -76,6 +75,7 @@ impl Printer {
     }
 
     /// Prints a text as it is.
+    #[inline(always)]
     pub(crate) fn verbatim<S: Sink>(&mut self, sink: &mut S, text: &str)
         ensures { Prints (S.state sink.old, self.old) (S.state sink.new, self.new) text.now }
     {
@@ -86,7 +86,13 @@ impl Printer {
     pub(crate) fn number<S: Sink>(&mut self, sink: &mut S, n: u32)
         ensures { Prints (S.state sink.old, self.old) (S.state sink.new, self.new) (decimal n) }
     {
-        let mut digits = Buffer::new();
-        self.verbatim(sink, digits.format(n));
+        if n < 10 {
+            self.text(sink, &[b'0' + n as u8]);
+        } else if self.room() >= MOST_DIGITS {
+            self.keep_number(n);
+        } else {
+            self.flush(sink);
+            self.keep_number(n);
+        }
     }
 }

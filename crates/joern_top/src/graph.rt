@@ -1,7 +1,8 @@
 //! The graph of a source, as the passes build it.
 
-ghost use Rattle.std.specs.Prelude.{◌≡◌, ◌∷◌, [], Some, Err, IfOk};
+ghost use Rattle.std.specs.Prelude.{◌≡◌, ◌∷◌, [], Some, Ok, Err, IfOk};
 ghost use Rattle.cpg_schema.specs.Sequence.{Cap};
+ghost use Rattle.graph_store.specs.Stored.{plain};
 ghost use Rattle.ast_layer.specs.Parts.{source_forest, sources_of};
 ghost use Rattle.joern_top.specs.Graph.{built_alone};
 ghost use Rattle.joern_top.specs.Reading.{IsBuiltFrom};
@@ -38,16 +39,29 @@ pub(crate) fn build_graph(alloc: Global, source: Source) -> Result<BuiltGraph, A
     ensures too_many_edges { result ≡ Err ApplyStop.TooManyEdges →
         built_alone (source_forest (Some source)) ≡ Err Cap.edges }
 {
+    let graph = graph_of(alloc, source)?;
+    let index = index_of(alloc, &graph)?;
+    Ok(BuiltGraph { graph, index })
+}
+
+/// Builds the graph of a source. The source's memory is given back before the index takes its own.
+fn graph_of(alloc: Global, source: Source) -> Result<Graph, ApplyStop>
+    ensures ok { IfOk result (λ graph.
+        built_alone (source_forest (Some source)) ≡ Ok (plain graph)) }
+    ensures too_many_nodes { result ≡ Err ApplyStop.TooManyNodes →
+        built_alone (source_forest (Some source)) ≡ Err Cap.nodes }
+    ensures too_many_edges { result ≡ Err ApplyStop.TooManyEdges →
+        built_alone (source_forest (Some source)) ≡ Err Cap.edges }
+{
     let caps = Caps {
         nodes: MAX_NODES,
         edges: MAX_EDGES,
     };
-    let hashes = name_hashes(&source)?;
+    let hashes = name_hashes(alloc, &source)?;
     let empty = Graph::new(alloc, caps, hashes)?;
     let pass = first_pass(alloc, source)?;
     let graph = run_pass_one(alloc, &pass, empty)?;
-    let index = index_of(alloc, &graph)?;
-    Ok(BuiltGraph { graph, index })
+    Ok(graph)
 }
 
 /// The pass that adds the syntax layer of a source.

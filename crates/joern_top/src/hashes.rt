@@ -1,44 +1,107 @@
 //! How the names of a graph are hashed.
 
 use ast_layer::Source;
-use sha2::{Digest, Sha256};
-use std::alloc::AllocError;
-use std::hash::RandomState;
+use c_lexer::{Kind, Token};
+use sha2::{Digest, Sha512};
+use std::alloc::{AllocError, Global};
+use std::hash::{FoldHasher, Hasher, RandomState};
 use std::io;
 use std::random::RandomSource;
 
-/// The digest of all names that a source can give, from which a key is taken.
-#[derive(Drop)]
-struct NameDigest {
-    bytes: [u8; 32],
+/// How many places there are for spellings that were added lately.
+const PLACES: usize = 4096;
+
+/// Where a spelling stands in a text.
+#[derive(Clone, Copy)]
+struct Span {
+    start: u32,
+    end: u32,
 }
 
-impl NameDigest {
-    /// The digest of the names of files and of the spellings of the kept tokens.
-    fn of(source: &Source) -> NameDigest {
-        let mut hasher = Sha256::new();
-        for name in source.places.files.items() {
-            add_name(&mut hasher, name.items());
+impl Span {
+    /// The bytes that stand there.
+    fn of(self, text: &[u8]) -> &[u8] {
+        text.get(self.start as usize..self.end as usize)
+            .unwrap_or(&[])
+    }
+}
+
+/// A digest of names that grows. Of a spelling that comes again and again each first time counts,
+/// and some of the others: it is not added where it was the last of those that share its place.
+#[derive(Drop)]
+struct Names<'a> {
+    text: &'a [u8],
+    digest: Sha512,
+    lately: Vec<Span>,
+}
+
+impl<'a> Names<'a> {
+    /// No names yet.
+    fn of(alloc: Global, text: &'a [u8]) -> Result<Names<'a>, AllocError> {
+        Ok(Names {
+            text,
+            digest: Sha512::new(),
+            lately: Vec::from_elem(alloc, Span { start: 0, end: 0 }, PLACES)?,
+        })
+    }
+
+    /// Adds a name and what ends it, so that each list of names has a text of its own.
+    fn add(&mut self, name: &[u8]) {
+        self.digest.update(name);
+        self.digest.update(b"\0");
+    }
+
+    /// Adds the spelling of a token, unless it is a keyword or a mark, which nobody chooses.
+    fn add_token(&mut self, token: &Token) {
+        if matches!(token.kind, Kind::Key(_) | Kind::Mark(_)) {
+            return;
         }
-        let tokens = source.tokens.items();
-        let bytes = source.bytes.items();
-        for position in source.kept.items() {
-            if let Some(token) = tokens.get(*position as usize) {
-                if let Some(spelling) = bytes.get(token.start as usize..token.end as usize) {
-                    add_name(&mut hasher, spelling);
-                }
+        let span = Span {
+            start: token.start,
+            end: token.end,
+        };
+        let spelling = span.of(self.text);
+        let place = place_of(spelling);
+        if let Some(last) = self.lately.get_mut(place) {
+            if last.of(self.text) != spelling {
+                *last = span;
+                self.add(spelling);
             }
-        }
-        NameDigest {
-            bytes: hasher.finalize(),
         }
     }
 }
 
-/// Adds a name and what ends it, so that each list of names has a text of its own.
-fn add_name(hasher: &mut Sha256, name: &[u8]) {
-    hasher.update(name);
-    hasher.update(b"\0");
+/// The place of a spelling.
+fn place_of(spelling: &[u8]) -> usize {
+    let mut hasher = FoldHasher::default();
+    hasher.write(spelling);
+    hasher.finish() as usize % PLACES
+}
+
+/// A digest of all names that a source can give, from which a key is taken.
+#[derive(Drop)]
+struct NameDigest {
+    bytes: [u8; 64],
+}
+
+impl NameDigest {
+    /// The digest of the names of files and of the spellings of the kept tokens.
+    fn of(alloc: Global, source: &Source) -> Result<NameDigest, AllocError> {
+        let mut names = Names::of(alloc, source.bytes.items())?;
+        for name in source.places.files.items() {
+            names.add(name.items());
+        }
+        let tokens = source.tokens.items();
+        for position in source.kept.items() {
+            if let Some(token) = tokens.get(*position as usize) {
+                names.add_token(token);
+            }
+        }
+        let Names { digest, .. } = names;
+        Ok(NameDigest {
+            bytes: digest.finalize(),
+        })
+    }
 }
 
 impl RandomSource for NameDigest {
@@ -54,6 +117,6 @@ impl RandomSource for NameDigest {
 ///
 /// Whoever writes the source chooses the names, but each choice gives another key, so that names
 /// that collide can't be made up beforehand. The same source gives the same run.
-pub(crate) fn name_hashes(source: &Source) -> Result<RandomState, AllocError> {
-    RandomState::new(&NameDigest::of(source)).map_err(|_| AllocError)
+pub(crate) fn name_hashes(alloc: Global, source: &Source) -> Result<RandomState, AllocError> {
+    RandomState::new(&NameDigest::of(alloc, source)?).map_err(|_| AllocError)
 }

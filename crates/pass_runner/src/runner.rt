@@ -6,7 +6,7 @@ ghost use Rattle.cpg_schema.specs.Sequence.{Cap, seq};
 ghost use Rattle.graph_store.specs.Stored.{plain};
 ghost use Rattle.pass_runner.specs.Runs.{GrowsByParts};
 
-use graph_delta::{ApplyStop, Pass, apply};
+use graph_delta::{ApplyStop, Pass, absorb, apply};
 use graph_store::Graph;
 use graph_store::laws::law_stored;
 use std::alloc::Global;
@@ -54,7 +54,7 @@ fn run_only_part<P: Pass>(alloc: Global, pass: &P, graph: &mut Graph) -> Result<
 {
     let ready = pass.prepare(alloc, graph)?;
     let delta = pass.delta(alloc, graph, &ready, 0)?;
-    apply(graph, &delta)
+    absorb(graph, delta)
 }
 
 /// Adds all parts of a pass over `start` to an equal graph.

@@ -1,5 +1,5 @@
 use Rattle.graph_text.proofs.Composing.{Prints-then}
-use Rattle.graph_text.proofs.printer.Printer.text.Goals as goal
+use Rattle.graph_text.proofs.printer.Printer.past_room.Goals as goal
 
 -- What waited goes out, and then the text.
 pub returns-else-text-le-ROOM : goal.returns-else-text-le-ROOM

@@ -1,9 +1,9 @@
 use Rattle.std.proofs.Common.{sym, ◌∙◌}
 use Rattle.ast_layer.specs.Parts.{sources_of}
 use Rattle.joern_top.proofs.Building.{built_by_pass}
-use Rattle.joern_top.proofs.graph.build_graph.Goals as goal
+use Rattle.joern_top.proofs.graph.graph_of.Goals as goal
 
 pub returns-clause-ok : goal.returns-clause-ok
 returns-clause-ok c =
     let built = built_by_pass c.args.source (sources_of c.in_ok-pass.pass) c.in_ok-empty.empty c.in_ok-pass.ensures c.in_ok-empty.ensures in
-    record { is = sym built ∙ c.in_ok-graph.ensures.ok.is; indexed = c.in_ok-index.ensures }
+    sym built ∙ c.in_ok-graph.ensures.ok.is
