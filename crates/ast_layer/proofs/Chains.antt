@@ -2,14 +2,13 @@
 use Rattle.std.proofs.Common.{◌≡◌, ℕ, zero, suc, ◌+◌, ◌<◌, ◌≤◌, List, [], ◌∷◌, ◌++◌, length, get_or, take, drop, refl, sym, ap, subst, ◌∙◌, arith, add-one, drop-cons, take-suc}
 use Rattle.std.proofs.lemmas.List.{take_all, drop_all}
 use Rattle.c_tree.specs.declared.tree.Prefixed.{Prefixed}
-use Rattle.graph_forest.specs.declared.hang.Hang.TheVariants.{Argument}
 use Rattle.graph_forest.specs.Forest.{leaf}
 use Rattle.graph_forest.specs.Planting.{Planting, Plants, Enters, Leaves}
 use Rattle.graph_forest.proofs.Composing.{plants_beside, plants_branch}
-use Rattle.ast_layer.specs.declared.rank.Rank.{Rank}
+use Rattle.graph_forest.specs.declared.rank.Rank.{Rank}
 use Rattle.ast_layer.specs.Source.{File}
 use Rattle.ast_layer.specs.Grouping.{Grouped, Operand, Joined, to_the_left, to_the_right, first_token, operand_token}
-use Rattle.ast_layer.specs.Ranks.{argument}
+use Rattle.graph_forest.specs.Ranks.{argument}
 use Rattle.ast_layer.specs.Nodes.{call_node, operand_node}
 use Rattle.ast_layer.specs.Forests.{grouped_forest}
 
@@ -37,7 +36,7 @@ pub record PlantsLeft (a closed : Planting) (n : ℕ) (file : File) (rank : Rank
 pub targets_step : (a b c after closed : Planting) (file : File) (rank : Rank) (targets : List (Prefixed × ℕ)) (value : Grouped) (i : ℕ) (item : Prefixed × ℕ) →
     i < length targets → item ≡ get_or targets i item →
     Enters a b rank.hang (call_node file item.1 (operand_token item.0) rank) →
-    Plants b c (leaf Argument (operand_node file item.0 (argument 1))) →
+    Plants b c (leaf (argument 1).hang (operand_node file item.0 (argument 1))) →
     Plants c after (grouped_forest file (argument 2) (to_the_right (drop (i + 1) targets) value)) →
     LeavesMany (i + 1) after closed →
     PlantsLeft a closed i file rank (to_the_right (drop i targets) value)
@@ -82,7 +81,7 @@ front-step first rest n item below is =
 abbrev pub Closes : File → List (ℕ × Prefixed) → Planting → Planting → Type 0
 Closes file [] a d = a ≡ d
 Closes file (next ∷ rest) a d =
-    (b : Planting) × (c : Planting) × Plants a b (leaf Argument (operand_node file next.1 (argument 2))) × Leaves b c × Closes file rest c d
+    (b : Planting) × (c : Planting) × Plants a b (leaf (argument 2).hang (operand_node file next.1 (argument 2))) × Leaves b c × Closes file rest c d
 
 -- What is planted when the operands from n on are planted and their CALLs left.
 pub record PlantsClosed (a closed : Planting) (file : File) (rank : Rank) (first : Prefixed) (rest : List (ℕ × Prefixed)) (n : ℕ) : Type 0 where
@@ -124,7 +123,7 @@ operators_all a after closed file rank first rest n all planted closes =
 
 -- One more operand is planted, and its CALL left.
 pub closes_step : (a b c closed : Planting) (file : File) (rest : List (ℕ × Prefixed)) (i : ℕ) (item : ℕ × Prefixed) → i < length rest → item ≡ get_or rest i item →
-    Plants a b (leaf Argument (operand_node file item.1 (argument 2))) → Leaves b c → Closes file (drop (i + 1) rest) c closed →
+    Plants a b (leaf (argument 2).hang (operand_node file item.1 (argument 2))) → Leaves b c → Closes file (drop (i + 1) rest) c closed →
     Closes file (drop i rest) a closed
 closes_step a b c closed file rest i item below is planted left closes =
     subst (λ (l : List (ℕ × Prefixed)). Closes file l a closed) (sym (left_is rest i item below is)) (b, c, planted, left, closes)

@@ -8,7 +8,7 @@ use Rattle.graph_forest.specs.Planting.{Planting, Plants}
 use Rattle.graph_forest.proofs.Composing.{plants_none, plants_beside}
 use Rattle.ast_layer.specs.Source.{File}
 use Rattle.ast_layer.specs.Grouping.{Grouped}
-use Rattle.ast_layer.specs.Ranks.{child}
+use Rattle.graph_forest.specs.Ranks.{child}
 use Rattle.ast_layer.specs.Forests.{grouped_forest, statement, item_parts, grouped_part, and_then, expressions, children_forest, function_forest, functions_forest}
 use Rattle.ast_layer.proofs.Chains.{left_is}
 

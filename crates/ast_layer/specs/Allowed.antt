@@ -10,7 +10,7 @@ use Rattle.c_tree.specs.declared.tree.BaseForm.{BaseForm}
 use Rattle.c_tree.specs.declared.tree.BaseForm.TheVariants as base_form
 use Rattle.ast_layer.specs.Source.{File}
 use Rattle.ast_layer.specs.Grouping.{Grouped, Operand, Joined}
-use Rattle.ast_layer.specs.Ranks.{child, argument}
+use Rattle.graph_forest.specs.Ranks.{child, argument}
 use Rattle.ast_layer.specs.Nodes.{form_node}
 use Rattle.ast_layer.specs.Forests.{grouped_forest, expressions, children_forest, function_forest}
 use Rattle.ast_layer.specs.Forests.{functions_forest, file_forest}

@@ -18,10 +18,10 @@ use Rattle.c_tree.specs.declared.tree.BlockItem.TheVariants as block_item
 use Rattle.c_tree.specs.declared.tree.StmtKind.{StmtKind}
 use Rattle.c_tree.specs.declared.tree.StmtKind.TheVariants as stmt_kind
 use Rattle.c_tree.specs.declared.tree.Assign.{Assign}
-use Rattle.ast_layer.specs.declared.rank.Rank.{Rank}
+use Rattle.graph_forest.specs.declared.rank.Rank.{Rank}
 use Rattle.ast_layer.specs.Source.{File}
 use Rattle.ast_layer.specs.Grouping.{Grouped, Operand, Joined, first_token, grouped_assign}
-use Rattle.ast_layer.specs.Ranks.{child, argument}
+use Rattle.graph_forest.specs.Ranks.{child, argument}
 use Rattle.ast_layer.specs.Nodes.{global_method, global_block, global_return}
 use Rattle.ast_layer.specs.Nodes.{method_node, block_node, return_node, call_node, operand_node}
 

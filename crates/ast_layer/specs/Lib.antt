@@ -2,7 +2,6 @@
 pub mod Source
 pub mod Operators
 pub mod Grouping
-pub mod Ranks
 pub mod Nodes
 pub mod Forests
 pub mod Parts

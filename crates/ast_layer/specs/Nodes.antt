@@ -6,8 +6,8 @@ use Rattle.cpg_schema.specs.Graph.{PlainNode, bare_node}
 use Rattle.c_tree.specs.declared.tree.Prefixed.{Prefixed}
 use Rattle.c_tree.specs.declared.tree.BaseForm.{BaseForm}
 use Rattle.c_tree.specs.declared.tree.BaseForm.TheVariants as base_form
-use Rattle.ast_layer.specs.declared.rank.Rank.{Rank}
-use Rattle.ast_layer.specs.Ranks.{argument_index}
+use Rattle.graph_forest.specs.declared.rank.Rank.{Rank}
+use Rattle.graph_forest.specs.Ranks.{argument_index}
 use Rattle.ast_layer.specs.Source.{File, token_of, presumed_line_at, presumed_file_at, spelling_at}
 use Rattle.ast_layer.specs.Operators.{operator_name}
 

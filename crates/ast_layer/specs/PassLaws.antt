@@ -1,15 +1,13 @@
 -- What each part adds fits, and makes a shaped graph.
 use Rattle.std.specs.Prelude.{ℕ, ◌≡◌, ◌<◌, List, Option, Some, None, Ok, length, slice_get, refl}
-use Rattle.std.specs.List.{All}
 use Rattle.std.proofs.Common.{sym, subst}
-use Rattle.std.proofs.lemmas.List.Elements.{All-nil}
 use Rattle.cpg_schema.specs.declared.caps.Caps.{Caps}
 use Rattle.cpg_schema.specs.Graph.{PlainGraph}
-use Rattle.cpg_schema.specs.Fitting.{Fits, IsEdgeAmong}
+use Rattle.cpg_schema.specs.Fitting.{Fits, IsGraph, PartsFit}
 use Rattle.cpg_schema.specs.Sequence.{seq}
 use Rattle.cpg_schema.specs.Shape.{IsShaped}
 use Rattle.graph_forest.specs.Forest.{IsAllowed, IsPlanted}
-use Rattle.graph_forest.proofs.Fitting.{planted_fits}
+use Rattle.graph_forest.proofs.Fitting.{planted_fits, planted_parts_fit}
 use Rattle.graph_forest.proofs.Shaping.{all_stay_shaped, empty_shaped}
 use Rattle.ast_layer.specs.declared.source.Source.{Source}
 use Rattle.ast_layer.specs.Source.{file_of}
@@ -27,18 +25,23 @@ part_planted sources part = record {
   is = refl;
 }
 
-pub parts_fit : (sources : List Source) (graph : PlainGraph) (part : ℕ) →
+-- A part fits every graph.
+pub part_fits : (sources : List Source) (graph : PlainGraph) (part : ℕ) →
     Fits graph (part_delta sources part)
-parts_fit sources graph part =
+part_fits sources graph part =
     planted_fits graph (part_delta sources part) (part_planted sources part)
 
+pub parts_fit : (sources : List Source) (start : PlainGraph) →
+    PartsFit start (part_delta sources) (length sources)
+parts_fit sources start =
+    planted_parts_fit start (part_delta sources) (length sources)
+    (λ part _. part_planted sources part)
+
 pub parts_shape : (sources : List Source) (caps : Caps) (start graph : PlainGraph) →
-    IsEmptyGraph start → seq caps start (part_delta sources) (length sources) ≡ Ok graph →
-    IsShaped graph
-parts_shape sources caps start graph empty is =
+    IsGraph start → IsEmptyGraph start →
+    seq caps start (part_delta sources) (length sources) ≡ Ok graph → IsShaped graph
+parts_shape sources caps start graph is_graph empty is =
     let parts : (part : ℕ) → part < length sources → IsPlanted (part_delta sources part) =
     λ part _. part_planted sources part in
-    let among : All (IsEdgeAmong start.nodes) start.edges =
-    subst (λ (g : PlainGraph). All (IsEdgeAmong g.nodes) g.edges) (sym empty) (All-nil _) in
     let shaped = subst IsShaped (sym empty) empty_shaped in
-    all_stay_shaped caps start (part_delta sources) (length sources) parts among shaped graph is
+    all_stay_shaped caps start (part_delta sources) (length sources) parts is_graph shaped graph is

@@ -8,10 +8,9 @@ ghost use Rattle.ast_layer.specs.Grouping.{grouped_assign, grouped_binary, opera
 ghost use Rattle.ast_layer.specs.Nodes.{operand_node};
 ghost use Rattle.ast_layer.specs.Forests.{grouped_forest};
 
-use crate::rank::Rank;
 use crate::source::Source;
 use c_tree::{Assign, BaseForm, Binary, Prefixed};
-use graph_forest::Planter;
+use graph_forest::{Planter, Rank};
 use std::alloc::AllocError;
 
 /// The first token of an operand.

@@ -7,10 +7,9 @@ ghost use Rattle.ast_layer.specs.Source.{file_of};
 ghost use Rattle.ast_layer.specs.Forests.{block_forest, children_forest, expressions, item_parts};
 ghost use Rattle.ast_layer.specs.Forests.{function_forest, name_token, type_token};
 
-use crate::rank::Rank;
 use crate::source::Source;
 use c_tree::{Assign, Block, BlockItem, Core, Declarator, Item, Spec, Specs, StmtKind};
-use graph_forest::{Hang, Planter};
+use graph_forest::{Hang, Planter, Rank};
 use std::alloc::AllocError;
 
 /// The token of the name that a declarator declares.

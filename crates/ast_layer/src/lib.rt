@@ -8,7 +8,6 @@ mod functions;
 mod nodes;
 mod operator;
 mod pass;
-mod rank;
 mod source;
 #[cfg(test)]
 mod tests;

@@ -7,11 +7,10 @@ ghost use Rattle.ast_layer.specs.Nodes.{block_node, call_node, global_block, glo
 ghost use Rattle.ast_layer.specs.Nodes.{global_return, method_node, operand_node, return_node};
 
 use crate::operator::name_of;
-use crate::rank::Rank;
 use crate::source::Source;
 use c_tree::{BaseForm, Prefixed};
 use cpg_schema::Label;
-use graph_forest::NewNode;
+use graph_forest::{NewNode, Rank};
 
 /// The longest type text, in bytes.
 const TYPE_TEXT_LIMIT: usize = 200;

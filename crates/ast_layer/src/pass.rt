@@ -67,8 +67,8 @@ impl Pass for AstPass {
         Ok(planter.finish())
     }
 
-    ghost fits = { λ pass _ _ graph _ part _ _. parts_fit (sources_of pass) graph part };
+    ghost fits = { λ pass start _ _. parts_fit (sources_of pass) start };
 
-    ghost shapes = { λ pass caps start graph empty is.
-        parts_shape (sources_of pass) caps start graph empty is };
+    ghost shapes = { λ pass caps start graph is_graph empty is.
+        parts_shape (sources_of pass) caps start graph is_graph empty is };
 }

@@ -8,8 +8,8 @@ use Rattle.cpg_schema.specs.Names.{kind_rank}
 use Rattle.cpg_schema.specs.Graph.{PlainNode}
 use Rattle.cpg_schema.specs.Fitting.{IsEdgeAmong}
 use Rattle.graph_store.specs.declared.edge.Edge.{Edge}
-use Rattle.graph_store.specs.Stored.{StoredGraph, plain, plain_edge}
-use Rattle.edge_index.specs.Indexed.{Indexed, IsIndexOf, IsWithin, LendsWithin, out_edges, into_edges}
+use Rattle.graph_store.specs.Stored.{StoredGraph, IsStored, plain_edge}
+use Rattle.edge_index.specs.Indexed.{Indexed, IsIndexOf, IsWithin, LendsWithin}
 
 pub from_within : (names : List (List ℕ)) (nodes : List PlainNode) (edges : List Edge) → All (IsEdgeAmong nodes) (map (plain_edge names) edges) →
     All (λ (e : Edge). e.from < length nodes) edges
@@ -27,15 +27,15 @@ to_within names nodes (e ∷ edges) all =
     All-cons (λ (e : Edge). e.to < length nodes) e edges (slice_get_within nodes e.to one.to one.to_is)
     (to_within names nodes edges (All-tail (IsEdgeAmong nodes) (plain_edge names e) (map (plain_edge names) edges) all))
 
--- What an index lends has nodes and names of its graph, where the graph's edges have.
-pub lends_within : (graph : StoredGraph) (index : Indexed) → IsIndexOf graph index → All (IsEdgeAmong graph.nodes) (plain graph).edges →
-    All (λ (e : Edge). e.variable < length graph.names) graph.edges → LendsWithin graph index
-lends_within graph index h among named =
+-- What an index lends has nodes and names of its graph.
+pub lends_within : (graph : StoredGraph) (index : Indexed) → IsStored graph → IsIndexOf graph index → LendsWithin graph index
+lends_within graph index stored h =
     let own = IsWithin (length graph.nodes) (length graph.names) in
+    let among = stored.is_graph.edges in
     let all : All own graph.edges = λ k d low. record {
       from = from_within graph.names graph.nodes graph.edges among k d low;
       to = to_within graph.names graph.nodes graph.edges among k d low;
-      variable = named k d low;
+      variable = (stored.variables k d low).pooled;
     } in
     let leaving = All-permutation own graph.edges index.leaving h.leaving.same all in
     let arriving = All-permutation own graph.edges index.arriving h.arriving.same all in

@@ -10,3 +10,4 @@ pub mod WholeSide
 pub mod Ends
 pub mod LentEdges
 pub mod OneEdge
+pub mod NodeByNode

@@ -7,10 +7,11 @@ use Rattle.std.proofs.lemmas.List.Elements.{All-nil, All-cons}
 use Rattle.cpg_schema.specs.declared.label.Label.{Label}
 use Rattle.cpg_schema.specs.declared.edge_kind.EdgeKind.{EdgeKind}
 use Rattle.cpg_schema.specs.declared.end.End.TheVariants.{Old}
-use Rattle.cpg_schema.specs.Graph.{PlainNode, PlainEdge, PlainGraph}
+use Rattle.cpg_schema.specs.Graph.{PlainNode, PlainEdge, PlainGraph, IsVariableOf}
 use Rattle.cpg_schema.specs.Schema.{allows}
 use Rattle.cpg_schema.specs.Deltas.{NewEdge, PlainDelta, added_edge}
 use Rattle.cpg_schema.specs.Fitting.{Fits, IsEdgeAmong, IsOldEnd}
+use Rattle.cpg_schema.proofs.Apart.{apart_none}
 
 -- the node at a number, by its label
 record HasLabel (nodes : List PlainNode) (id : ℕ) (label : Label) : Type 0 where
@@ -27,9 +28,9 @@ has_label nodes id label is = by (slice_get nodes id) refl is
 
 pub one_edge_fits : (graph : PlainGraph) (from to : ℕ) (kind : EdgeKind) (variable : List ℕ) (start end : Label) → from < length graph.nodes → to < length graph.nodes →
     option_map (λ (node : PlainNode). node.label) (slice_get graph.nodes from) ≡ Some start → option_map (λ (node : PlainNode). node.label) (slice_get graph.nodes to) ≡ Some end →
-    IsTrue (allows kind start end) →
+    IsTrue (allows kind start end) → IsVariableOf kind variable →
     Fits graph (record { nodes = []; edges = record { from = Old from; kind = kind; to = Old to; variable = variable } ∷ []; settings = [] })
-one_edge_fits graph from to kind variable start end low high start_is end_is allowed =
+one_edge_fits graph from to kind variable start end low high start_is end_is allowed named =
     let edge : NewEdge = record { from = Old from; kind = kind; to = Old to; variable = variable } in
     let s = has_label graph.nodes from start start_is in
     let e = has_label graph.nodes to end end_is in
@@ -40,10 +41,12 @@ one_edge_fits graph from to kind variable start end low high start_is end_is all
       to = e.node;
       to_is = subst (λ (nodes : List PlainNode). slice_get nodes to ≡ Some e.node) same e.node_is;
       allowed = rw (s.label_is, e.label_is) allowed;
+      variable = named;
     } in
     record {
       old_from = All-cons (λ (edge : NewEdge). IsOldEnd (length graph.nodes) edge.from) edge [] low (All-nil _);
       old_to = All-cons (λ (edge : NewEdge). IsOldEnd (length graph.nodes) edge.to) edge [] high (All-nil _);
       allowed = All-cons (IsEdgeAmong (graph.nodes ++ [])) (added_edge (length graph.nodes) edge) [] among (All-nil _);
-      settings = tt;
+      settings = All-nil _;
+      apart = apart_none;
     }

@@ -9,14 +9,15 @@ use Rattle.std.specs.Prelude.{
   List,
   [],
   filter,
+  flat_map,
   length,
   map,
   slice_index_or,
   IsPermutation,
 }
-use Rattle.std.specs.List.{All}
+use Rattle.std.specs.List.{All, range_with_len}
 use Rattle.cpg_schema.specs.declared.edge_kind.EdgeKind.{EdgeKind}
-use Rattle.cpg_schema.specs.Names.{kind_rank}
+use Rattle.cpg_schema.specs.Names.{all_kinds, kind_rank}
 use Rattle.cpg_schema.specs.Graph.{PlainEdge}
 use Rattle.cpg_schema.specs.Order.{in_order}
 use Rattle.graph_store.specs.declared.edge.Edge.{Edge}
@@ -58,6 +59,14 @@ out_edges index id kind =
 abbrev pub into_edges : Indexed → ℕ → EdgeKind → List Edge
 into_edges index id kind =
     filter (λ edge. (edge.to == id) && (kind_rank edge.kind == kind_rank kind)) index.arriving
+
+-- The edges of an index that lead from this node, one kind after another.
+abbrev pub node_edges : Indexed → ℕ → List Edge
+node_edges index id = flat_map (out_edges index id) all_kinds
+
+-- Those of all nodes, one node after another.
+abbrev pub all_edges : Indexed → List Edge
+all_edges index = flat_map (node_edges index) (range_with_len 0 index.node_count)
 
 -- The edge's ends are among so many nodes, and its variable among so many names.
 pub record IsWithin (nodes names : ℕ) (edge : Edge) : Type 0 where

@@ -6,6 +6,7 @@ ghost use Rattle.edge_index.specs.Indexed.{into_edges, out_edges, IsIndexOf};
 use crate::direction::{Arriving, Leaving};
 use crate::side::Side;
 use cpg_schema::EdgeKind;
+use graph_store::laws::law_stored;
 use graph_store::{Edge, Graph};
 use std::alloc::{AllocError, Global};
 use std::marker::Model;
@@ -43,7 +44,7 @@ impl Model for Index {
 pub fn index_of(alloc: Global, graph: &Graph) -> Result<Index, AllocError>
     ensures { IfOk result (IsIndexOf graph.now) }
 {
-    let _edges = graph.edges();
+    law_stored(graph);
     let node_count = graph.len();
     Ok(Index {
         node_count,

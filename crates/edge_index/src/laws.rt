@@ -1,12 +1,12 @@
 //! Laws of an index, for those who use it beside the graph of which it was made.
 
-ghost use Rattle.std.specs.Prelude.{ℕ, ◌≡◌, ◌<◌, length, map};
-ghost use Rattle.std.specs.List.{All};
+ghost use Rattle.std.specs.Prelude.{ℕ, ◌≡◌, map};
 ghost use Rattle.cpg_schema.specs.declared.edge_kind.EdgeKind.{EdgeKind as Kind};
-ghost use Rattle.cpg_schema.specs.Fitting.{IsEdgeAmong};
-ghost use Rattle.graph_store.specs.Stored.{plain, plain_edge, StoredGraph};
+ghost use Rattle.cpg_schema.specs.Order.{in_order};
+ghost use Rattle.graph_store.specs.Stored.{plain, plain_edge, IsStored, StoredGraph};
 ghost use Rattle.edge_index.specs.NodeEdges.{edges_from, edges_to};
-ghost use Rattle.edge_index.specs.Indexed.{into_edges, out_edges, Indexed, IsIndexOf, LendsWithin};
+ghost use Rattle.edge_index.specs.Indexed.{all_edges, into_edges, out_edges, Indexed, IsIndexOf};
+ghost use Rattle.edge_index.specs.Indexed.{LendsWithin};
 
 /// What an index lends, with names in place of their numbers, are the plain graph's edges of that
 /// node and kind, each once and in order.
@@ -19,11 +19,18 @@ pub fn law_node_edges()
         ≡ edges_to (plain graph) id kind }
 {}
 
-/// What an index lends has nodes and names of its graph, where the graph's edges have; that they
-/// have is what `Graph::edges` tells.
+/// The edges that leave each node, one node after another and within a node one kind after another,
+/// are all edges that the index lends: the plain graph's, in the order of printing.
+pub fn law_all_edges()
+    ensures leaving { (graph : StoredGraph) (index : Indexed) → IsStored graph →
+        IsIndexOf graph index → all_edges index ≡ index.leaving }
+    ensures printed { (graph : StoredGraph) (index : Indexed) → IsStored graph →
+        IsIndexOf graph index →
+        map (plain_edge graph.names) (all_edges index) ≡ in_order (plain graph).edges }
+{}
+
+/// What an index lends has nodes and names of its graph.
 pub fn law_within()
-    ensures { (graph : StoredGraph) (index : Indexed) → IsIndexOf graph index →
-        All (IsEdgeAmong graph.nodes) (map (plain_edge graph.names) graph.edges) →
-        All (λ edge. edge.variable < length graph.names) graph.edges →
+    ensures { (graph : StoredGraph) (index : Indexed) → IsStored graph → IsIndexOf graph index →
         LendsWithin graph index }
 {}

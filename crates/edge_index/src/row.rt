@@ -43,7 +43,7 @@ fn compare<D: Direction>(graph: &Graph, a: &Edge, b: &Edge) -> Ordering
 pub(crate) fn sort_row<D: Direction>(graph: &Graph, row: &mut [Edge])
     ensures order { map (seen D.near_of D.far_of graph.now.names) row.new
         ≡ in_order (map (seen D.near_of D.far_of graph.now.names) row.old) }
-    ensures same { IsPermutation row.old row.new }
+    ensures permutation { IsPermutation row.old row.new }
 {
     law_only_order();
     if row.len() > 1 {
@@ -54,12 +54,12 @@ pub(crate) fn sort_row<D: Direction>(graph: &Graph, row: &mut [Edge])
 /// Puts the edges of each node in order.
 pub(crate) fn sort_rows<D: Direction>(graph: &Graph, edges: &mut [Edge], starts: &[u32])
     requires some { 0 < length starts.now }
-    requires within { All (λ edge. D.near_of edge < length starts.now - 1) graph.now.edges }
+    requires inside { All (λ edge. D.near_of edge < length starts.now - 1) graph.now.edges }
     requires starts { AreStarts D.near_of graph.now.edges starts.now }
     requires grouped { AreGrouped D.near_of graph.now.edges edges.old }
     ensures rows { AreRows D.near_of D.far_of graph.now.names (length starts.now - 1)
         graph.now.edges edges.new }
-    ensures same { IsPermutation graph.now.edges edges.new }
+    ensures permutation { IsPermutation graph.now.edges edges.new }
 {
     for node in 1..starts.len() {
         let from = starts[node - 1] as usize;

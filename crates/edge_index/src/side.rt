@@ -28,7 +28,7 @@ impl Side {
         graph: &Graph,
         count: u32,
     ) -> Result<Side, AllocError>
-        requires within { All (λ edge. D.near_of edge < count) graph.now.edges }
+        requires inside { All (λ edge. D.near_of edge < count) graph.now.edges }
         requires few { length graph.now.edges < 2 ^ 32 }
         ensures len { IfOk result (λ side. length side.starts.items ≡ count + 1) }
         ensures order { IfOk result (λ side. AreInOrder (seen D.near_of D.far_of graph.now.names)
@@ -43,7 +43,7 @@ impl Side {
     /// The edges of a node and of this kind.
     pub(crate) fn of_kind<D: Direction>(&self, node: u32, kind: EdgeKind) -> &[Edge]
         requires side { IsSide D.near_of self.now.starts.items self.now.edges.items }
-        requires within { node + 1 < length self.now.starts.items }
+        requires inside { node + 1 < length self.now.starts.items }
         ensures { result.now ≡ filter (λ edge. (D.near_of edge == node)
             && (kind_rank edge.kind == kind_rank kind)) self.now.edges.items }
     {

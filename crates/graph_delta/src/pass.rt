@@ -4,7 +4,7 @@ ghost use Rattle.std.specs.Prelude.{ℕ, ◌≡◌, ◌<◌, IfOk, Ok};
 ghost use Rattle.cpg_schema.specs.declared.caps.Caps.{Caps};
 ghost use Rattle.cpg_schema.specs.Graph.{PlainGraph};
 ghost use Rattle.cpg_schema.specs.Deltas.{PlainDelta};
-ghost use Rattle.cpg_schema.specs.Fitting.{Fits};
+ghost use Rattle.cpg_schema.specs.Fitting.{IsGraph, PartsFit};
 ghost use Rattle.cpg_schema.specs.Sequence.{seq};
 ghost use Rattle.cpg_schema.specs.Shape.{IsShaped};
 ghost use Rattle.graph_store.specs.Stored.{StoredGraph, plain};
@@ -20,9 +20,10 @@ use std::alloc::{AllocError, Global};
 /// serves all parts of a graph, as its index; it holds numbers of names, so it is said of the
 /// graph as it is kept.
 ///
-/// A pass promises two laws of every graph that it takes, whatever the caps are. `fits`: the delta
-/// of each part fits the graph after the parts before it, so `apply` may be called. `shapes`: the
-/// graph with all parts is shaped, so a later pass may be given it.
+/// A pass promises two laws of every well-formed graph that it takes. `fits`: the deltas of its
+/// parts fit the graph as it is at the start; so each may be applied after those before it
+/// (`laws::law_parts_fit`). `shapes`: the graph with all parts is shaped, whatever the caps are, so
+/// a later pass may be given it.
 pub trait Pass {
     /// What is made once for all parts.
     type Ready: Drop + Sync;
@@ -55,16 +56,15 @@ pub trait Pass {
     ) -> Result<Delta, AllocError>
         requires takes { takes self.now (plain graph.now) }
         requires ready { is_ready self.now graph.now ready.now }
-        requires part { part < parts_of self.now (plain graph.now) }
+        requires inside { part < parts_of self.now (plain graph.now) }
         ensures { IfOk result (λ delta. delta ≡ delta_of self.now (plain graph.now) part) };
 
-    // Each part's delta fits the graph after the parts before it.
-    ghost fits: { (pass : Self) (caps : Caps) (start graph : PlainGraph) → takes pass start →
-        (part : ℕ) → part < parts_of pass start →
-        seq caps start (delta_of pass start) part ≡ Ok graph →
-        Fits graph (delta_of pass start part) };
+    // Each part's delta fits the graph as it is at the start, and no two set one key at one node.
+    ghost fits: { (pass : Self) (start : PlainGraph) → IsGraph start → takes pass start →
+        PartsFit start (delta_of pass start) (parts_of pass start) };
 
     // The graph with all parts is shaped.
-    ghost shapes: { (pass : Self) (caps : Caps) (start graph : PlainGraph) → takes pass start →
-        seq caps start (delta_of pass start) (parts_of pass start) ≡ Ok graph → IsShaped graph };
+    ghost shapes: { (pass : Self) (caps : Caps) (start graph : PlainGraph) → IsGraph start →
+        takes pass start → seq caps start (delta_of pass start) (parts_of pass start) ≡ Ok graph →
+        IsShaped graph };
 }

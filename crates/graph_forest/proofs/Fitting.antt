@@ -1,15 +1,16 @@
 -- A planted forest that is allowed fits every graph.
-use Rattle.std.proofs.Common.{◌≡◌, ℕ, zero, suc, ◌+◌, ◌&&◌, Bool, true, false, IsTrue, List, [], ◌∷◌, ◌++◌, length, map, slice_get, Option, Some, None, refl, ap, sym, subst, ◌∙◌, arith}
+use Rattle.std.proofs.Common.{◌≡◌, ℕ, ◌+◌, ◌<◌, ◌&&◌, Bool, true, false, IsTrue, List, [], ◌∷◌, ◌++◌, length, map, slice_get, Option, Some, None, inr, refl, ap, sym, subst, ◌∙◌, arith}
 use Rattle.std.specs.List.{All}
 use Rattle.std.proofs.lemmas.List.{append-nil, append_assoc, length-append, length_push, map-append}
 use Rattle.std.proofs.lemmas.List.Elements.{All-nil, All-cons, All-append, All-same}
 use Rattle.cpg_schema.specs.declared.label.Label.{Label}
 use Rattle.cpg_schema.specs.declared.edge_kind.EdgeKind.{EdgeKind}
 use Rattle.cpg_schema.specs.declared.edge_kind.EdgeKind.TheVariants as edge_kind
-use Rattle.cpg_schema.specs.Graph.{PlainNode, PlainEdge, PlainGraph}
+use Rattle.cpg_schema.specs.Graph.{PlainNode, PlainGraph}
 use Rattle.cpg_schema.specs.Schema.{allows}
 use Rattle.cpg_schema.specs.Deltas.{NewEdge, PlainDelta, added_edge}
-use Rattle.cpg_schema.specs.Fitting.{Fits, IsOldEnd, IsEdgeAmong}
+use Rattle.cpg_schema.specs.Fitting.{Fits, IsOldEnd, IsEdgeAmong, PartsFit}
+use Rattle.cpg_schema.proofs.Apart.{apart_none, parts_fit_alone}
 use Rattle.graph_delta.proofs.Fitting.{get_behind}
 use Rattle.graph_forest.specs.declared.hang.Hang.{Hang}
 use Rattle.graph_forest.specs.declared.hang.Hang.TheVariants.{Plain, Argument, Condition}
@@ -20,7 +21,7 @@ module _ (P : NewEdge → Type 0) (holds : (parent child : ℕ) (kind : EdgeKind
   each_to : (parent : Option ℕ) (h : Hang) (child : ℕ) → All P (edges_to parent h child)
   each_to None h child = All-nil P
   each_to (Some p) Plain child = All-cons P (edge_between p child edge_kind.Ast) [] (holds p child edge_kind.Ast) (All-nil P)
-  each_to (Some p) Argument child =
+  each_to (Some p) (Argument i) child =
       All-cons P (edge_between p child edge_kind.Ast) (edge_between p child edge_kind.Argument ∷ []) (holds p child edge_kind.Ast)
       (All-cons P (edge_between p child edge_kind.Argument) [] (holds p child edge_kind.Argument) (All-nil P))
   each_to (Some p) Condition child =
@@ -103,6 +104,7 @@ module _ (nodes : List PlainNode) (s : ℕ) where
     to = n;
     to_is = is;
     allowed = subst (λ (l : Label). IsTrue (allows kind l n.label)) (sym parent.label_is) t;
+    variable = inr refl;
   }
 
   among_both : (p child : ℕ) (kind : EdgeKind) (label : Label) (n : PlainNode) → IsNodeOf nodes (s + p) label → slice_get nodes (s + child) ≡ Some n →
@@ -122,7 +124,7 @@ module _ (nodes : List PlainNode) (s : ℕ) where
   among_to (Some p) None h child n parent is t = absurd parent
   among_to (Some p) (Some l) Plain child n parent is t =
       All-cons (IsEdgeAmong nodes) (added_edge s (edge_between p child edge_kind.Ast)) [] (among_one p child edge_kind.Ast l n parent is t) (All-nil (IsEdgeAmong nodes))
-  among_to (Some p) (Some l) Argument child n parent is t = among_both p child edge_kind.Argument l n parent is t
+  among_to (Some p) (Some l) (Argument i) child n parent is t = among_both p child edge_kind.Argument l n parent is t
   among_to (Some p) (Some l) Condition child n parent is t = among_both p child edge_kind.Condition l n parent is t
 
   all_append : (xs ys : List NewEdge) → All (IsEdgeAmong nodes) (map (added_edge s) xs) → All (IsEdgeAmong nodes) (map (added_edge s) ys) →
@@ -163,9 +165,20 @@ fits_forest graph f allowed =
       old_from = each_edge (λ (e : NewEdge). IsOldEnd s e.from) (λ parent child kind. tt) None 0 f;
       old_to = each_edge (λ (e : NewEdge). IsOldEnd s e.to) (λ parent child kind. tt) None 0 f;
       allowed = among_all (graph.nodes ++ nodes_of f) s None None 0 f tt stands allowed;
-      settings = tt;
+      settings = All-nil _;
+      apart = apart_none;
     }
 
 -- and so does a delta that adds one
 pub planted_fits : (graph : PlainGraph) (delta : PlainDelta) → IsPlanted delta → Fits graph delta
 planted_fits graph delta h = subst (λ (d : PlainDelta). Fits graph d) (sym h.is) (fits_forest graph h.forest h.allowed)
+
+sets_none : (delta : PlainDelta) → IsPlanted delta → delta.settings ≡ []
+unfolding planted
+sets_none delta h = ap (λ (d : PlainDelta). d.settings) h.is
+
+-- where each part adds one, the parts fit
+pub planted_parts_fit : (start : PlainGraph) (delta_of : ℕ → PlainDelta) (parts : ℕ) → ((part : ℕ) → part < parts → IsPlanted (delta_of part)) →
+    PartsFit start delta_of parts
+planted_parts_fit start delta_of parts each =
+    parts_fit_alone start delta_of parts (λ k low. sets_none (delta_of k) (each k low)) (λ k low. planted_fits start (delta_of k) (each k low))

@@ -60,7 +60,7 @@ module _ (s : ℕ) where
   rises_to None h child up = done (s + child) (omega arith)
   rises_to (Some p) Plain child up =
       rise (s + child) (added_edge s (edge_between p child edge_kind.Ast)) [] (omega arith) (omega arith) (omega arith) (done (s + child + 1) (omega arith))
-  rises_to (Some p) Argument child up = rises_both p child edge_kind.Argument up (λ (bad : edge_kind.Argument ≡ edge_kind.Ast). cc)
+  rises_to (Some p) (Argument i) child up = rises_both p child edge_kind.Argument up (λ (bad : edge_kind.Argument ≡ edge_kind.Ast). cc)
   rises_to (Some p) Condition child up = rises_both p child edge_kind.Condition up (λ (bad : edge_kind.Condition ≡ edge_kind.Ast). cc)
 
   pub rises : (parent : Option ℕ) (first : ℕ) (f : Forest) → IsEarlier parent first →

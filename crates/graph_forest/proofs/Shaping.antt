@@ -1,15 +1,16 @@
 -- A shaped graph stays shaped when allowed forests are planted.
-use Rattle.std.proofs.Common.{◌≡◌, ℕ, zero, suc, ◌+◌, ◌<◌, ◌≤◌, List, [], ◌∷◌, ◌++◌, Ok, length, map, slice_get, Some, None, refl, ap, sym, subst, ◌∙◌, arith}
+use Rattle.std.proofs.Common.{◌≡◌, ℕ, zero, suc, ◌+◌, ◌<◌, ◌≤◌, List, [], ◌∷◌, ◌++◌, Ok, length, map, slice_get, Some, None, sym, subst, arith}
 use Rattle.std.specs.List.{All}
-use Rattle.std.proofs.lemmas.List.Elements.{All-head, All-tail, All-append, All-weaker}
+use Rattle.std.proofs.lemmas.List.Elements.{All-head, All-tail}
 use Rattle.cpg_schema.specs.declared.caps.Caps.{Caps}
 use Rattle.cpg_schema.specs.Graph.{PlainNode, PlainEdge, PlainGraph, plain_graph}
 use Rattle.cpg_schema.specs.Deltas.{PlainDelta, applied, added_edge}
-use Rattle.cpg_schema.specs.Fitting.{Fits, IsEdgeAmong}
+use Rattle.cpg_schema.specs.Fitting.{IsEdgeAmong, IsGraph}
+use Rattle.cpg_schema.proofs.Among.{applied_is_graph}
 use Rattle.cpg_schema.specs.Sequence.{seq}
 use Rattle.cpg_schema.specs.Shape.{IsAstEdgeAt, IsAbove, child as child_of, descendant as further, IsShaped}
 use Rattle.graph_delta.proofs.Sequencing.{seq_keeps}
-use Rattle.graph_forest.specs.Forest.{Forest, nodes_of, edges_of, planted, IsAllowed, IsPlanted}
+use Rattle.graph_forest.specs.Forest.{Forest, nodes_of, edges_of, planted, IsPlanted}
 use Rattle.graph_forest.proofs.Fitting.{planted_fits}
 use Rattle.graph_forest.proofs.Rising.{IsRising, lower, rises, rest_of_edges, no_edge, IsUp, at_rising, one_rising}
 
@@ -18,21 +19,6 @@ get_inside [] zero x is = absurd (cc)
 get_inside [] (suc i) x is = absurd (cc)
 get_inside (y ∷ ys) zero x is = omega arith
 get_inside (y ∷ ys) (suc i) x is = let low = get_inside ys i x is in omega arith
-
-get_more : (xs ys : List PlainNode) (i : ℕ) (x : PlainNode) → slice_get xs i ≡ Some x → slice_get (xs ++ ys) i ≡ Some x
-get_more [] ys zero x is = absurd (cc)
-get_more [] ys (suc i) x is = absurd (cc)
-get_more (y ∷ xs) ys zero x is = is
-get_more (y ∷ xs) ys (suc i) x is = get_more xs ys i x is
-
-among_more : (nodes more : List PlainNode) (e : PlainEdge) → IsEdgeAmong nodes e → IsEdgeAmong (nodes ++ more) e
-among_more nodes more e h = record {
-  from = h.from;
-  from_is = get_more nodes more e.from h.from h.from_is;
-  to = h.to;
-  to_is = get_more nodes more e.to h.to h.to_is;
-  allowed = h.allowed;
-}
 
 all_at : (P : PlainEdge → Type 0) (edges : List PlainEdge) → All P edges → (position : ℕ) (edge : PlainEdge) → slice_get edges position ≡ Some edge → P edge
 all_at P [] all position edge is = cc
@@ -121,46 +107,31 @@ module _ (graph : PlainGraph) (ys : List PlainEdge) (high : ℕ) (among : All (I
     no_cycle = λ node above. no_path node (path node node above);
   }
 
--- The graph is shaped, and its edges are between its nodes.
-pub record IsWhole (graph : PlainGraph) : Type 0 where
-  pub among : All (IsEdgeAmong graph.nodes) graph.edges
-  pub shaped : IsShaped graph
+-- The graph is well formed and shaped.
+record IsWhole (graph : PlainGraph) : Type 0 where
+  is_graph : IsGraph graph
+  shaped : IsShaped graph
 
-shaped_forest : (graph : PlainGraph) (f : Forest) → All (IsEdgeAmong graph.nodes) graph.edges → IsShaped graph → IsShaped (applied graph (planted f))
+shaped_forest : (graph : PlainGraph) (f : Forest) → IsGraph graph → IsShaped graph → IsShaped (applied graph (planted f))
 unfolding planted
-shaped_forest graph f among shaped =
+shaped_forest graph f is_graph shaped =
     let s = length graph.nodes in
     let ys = map (added_edge s) (edges_of None 0 f) in
     let le : s ≤ s + 0 = omega arith in
-    shaped_with graph ys (s + 0 + length (nodes_of f)) among shaped
+    shaped_with graph ys (s + 0 + length (nodes_of f)) is_graph.edges shaped
     (lower s (s + 0 + length (nodes_of f)) (s + 0) s ys le (rises s None 0 f tt)) (graph.nodes ++ nodes_of f)
 
-pub planted_shaped : (graph : PlainGraph) (delta : PlainDelta) → IsPlanted delta → All (IsEdgeAmong graph.nodes) graph.edges → IsShaped graph →
-    IsShaped (applied graph delta)
-planted_shaped graph delta h among shaped = subst (λ (d : PlainDelta). IsShaped (applied graph d)) (sym h.is) (shaped_forest graph h.forest among shaped)
-
-among_forest : (graph : PlainGraph) (f : Forest) → Fits graph (planted f) → All (IsEdgeAmong graph.nodes) graph.edges →
-    All (IsEdgeAmong (applied graph (planted f)).nodes) (applied graph (planted f)).edges
-unfolding planted
-among_forest graph f fits among =
-    let more = nodes_of f in
-    let edges = map (added_edge (length graph.nodes)) (edges_of None 0 f) in
-    All-append (IsEdgeAmong (graph.nodes ++ more)) graph.edges edges
-    (All-weaker (IsEdgeAmong graph.nodes) (IsEdgeAmong (graph.nodes ++ more)) (λ e. among_more graph.nodes more e) graph.edges among) fits.allowed
-
-pub planted_among : (graph : PlainGraph) (delta : PlainDelta) → IsPlanted delta → All (IsEdgeAmong graph.nodes) graph.edges →
-    All (IsEdgeAmong (applied graph delta).nodes) (applied graph delta).edges
-planted_among graph delta h among =
-    let P : PlainDelta → Type 0 = λ d. All (IsEdgeAmong (applied graph d).nodes) (applied graph d).edges in
-    subst P (sym h.is) (among_forest graph h.forest (subst (λ (d : PlainDelta). Fits graph d) h.is (planted_fits graph delta h)) among)
+pub planted_shaped : (graph : PlainGraph) (delta : PlainDelta) → IsPlanted delta → IsGraph graph → IsShaped graph → IsShaped (applied graph delta)
+planted_shaped graph delta h is_graph shaped =
+    subst (λ (d : PlainDelta). IsShaped (applied graph d)) (sym h.is) (shaped_forest graph h.forest is_graph shaped)
 
 pub all_stay_shaped : (caps : Caps) (start : PlainGraph) (delta_of : ℕ → PlainDelta) (parts : ℕ) → ((k : ℕ) → k < parts → IsPlanted (delta_of k)) →
-    All (IsEdgeAmong start.nodes) start.edges → IsShaped start → (graph : PlainGraph) → seq caps start delta_of parts ≡ Ok graph → IsShaped graph
-all_stay_shaped caps start delta_of parts each among shaped graph is =
-    let whole : IsWhole start = record { among = among; shaped = shaped } in
+    IsGraph start → IsShaped start → (graph : PlainGraph) → seq caps start delta_of parts ≡ Ok graph → IsShaped graph
+all_stay_shaped caps start delta_of parts each is_graph shaped graph is =
+    let whole : IsWhole start = record { is_graph = is_graph; shaped = shaped } in
     let kept : (k : ℕ) (g : PlainGraph) → k < parts → IsWhole g → IsWhole (applied g (delta_of k)) = λ k g low h. record {
-      among = planted_among g (delta_of k) (each k low) h.among;
-      shaped = planted_shaped g (delta_of k) (each k low) h.among h.shaped;
+      is_graph = applied_is_graph g (delta_of k) h.is_graph (planted_fits g (delta_of k) (each k low));
+      shaped = planted_shaped g (delta_of k) (each k low) h.is_graph h.shaped;
     } in
     (seq_keeps caps start delta_of IsWhole parts whole kept parts (omega arith) graph is).shaped
 

@@ -34,7 +34,7 @@ edges_of-beside parent first (tree h n c a) g =
 length-edges_to : (parent : Option ℕ) (h : Hang) (child : ℕ) → length (edges_to parent h child) ≤ 2
 length-edges_to None h child = omega arith
 length-edges_to (Some parent) Plain child = omega arith
-length-edges_to (Some parent) Argument child = omega arith
+length-edges_to (Some parent) (Argument i) child = omega arith
 length-edges_to (Some parent) Condition child = omega arith
 
 -- at most two edges a node

@@ -44,7 +44,7 @@ nodes_of (tree hang node children after) = node ∷ nodes_of children ++ nodes_o
 -- The kinds of the edges that lead from its parent to a node.
 abbrev pub kinds_of : Hang → List EdgeKind
 kinds_of Plain = edge_kind.Ast ∷ []
-kinds_of Argument = edge_kind.Ast ∷ edge_kind.Argument ∷ []
+kinds_of (Argument index) = edge_kind.Ast ∷ edge_kind.Argument ∷ []
 kinds_of Condition = edge_kind.Ast ∷ edge_kind.Condition ∷ []
 
 -- An edge between two new nodes, by their positions.
@@ -89,7 +89,7 @@ planted forest = record {
 abbrev pub may_hang : Option Label → Hang → Label → Bool
 may_hang None hang child = true
 may_hang (Some parent) Plain child = allows edge_kind.Ast parent child
-may_hang (Some parent) Argument child =
+may_hang (Some parent) (Argument index) child =
     allows edge_kind.Ast parent child && allows edge_kind.Argument parent child
 may_hang (Some parent) Condition child =
     allows edge_kind.Ast parent child && allows edge_kind.Condition parent child

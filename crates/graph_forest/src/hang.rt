@@ -5,8 +5,8 @@
 pub enum Hang {
     /// Nothing.
     Plain,
-    /// An ARGUMENT edge, as from a call to what it takes.
-    Argument,
+    /// An ARGUMENT edge, as from a call to what it takes. The node is the argument of this index.
+    Argument { index: u32 },
     /// A CONDITION edge, as from a control structure to what it tests.
     Condition,
 }

@@ -7,9 +7,11 @@ pub mod laws;
 mod new_node;
 mod planter;
 mod properties;
+mod rank;
 #[cfg(test)]
 mod tests;
 
 pub use hang::Hang;
 pub use new_node::NewNode;
 pub use planter::Planter;
+pub use rank::Rank;

@@ -114,7 +114,9 @@ fn hang_from(delta: &mut Delta, parent: u64, hang: Hang, child: u64) -> Result<(
     delta.edge(End::New(parent), EdgeKind::Ast, End::New(child), b"")?;
     match hang {
         Hang::Plain => Ok(()),
-        Hang::Argument => delta.edge(End::New(parent), EdgeKind::Argument, End::New(child), b""),
+        Hang::Argument { .. } => {
+            delta.edge(End::New(parent), EdgeKind::Argument, End::New(child), b"")
+        }
         Hang::Condition => delta.edge(End::New(parent), EdgeKind::Condition, End::New(child), b""),
     }
 }

@@ -2,10 +2,11 @@
 use Rattle.std.proofs.Common.{◌≡◌, ℕ, ◌+◌, ◌<◌, ◌≤◌, List, [], ◌∷◌, ◌++◌, Some, length, map, slice_get, ap, sym, subst, ◌∙◌, arith}
 use Rattle.std.specs.List.{All}
 use Rattle.std.proofs.lemmas.List.{length-append, map-append, length-map}
-use Rattle.std.proofs.lemmas.List.Elements.{All-weaker, All-append, All-same, All-head, All-tail, All-cons}
+use Rattle.std.proofs.lemmas.List.Elements.{All-nil, All-weaker, All-append, All-head, All-tail, All-cons}
 use Rattle.cpg_schema.specs.Graph.{PlainNode, PlainEdge}
-use Rattle.cpg_schema.specs.Deltas.{NewEdge, applied, with_settings, added_edge}
-use Rattle.cpg_schema.specs.Fitting.{Fits, IsOldEnd, IsEdgeAmong}
+use Rattle.cpg_schema.specs.Deltas.{NewEdge, Setting, applied, with_settings, added_edge}
+use Rattle.cpg_schema.specs.Fitting.{Fits, IsGraph, IsNewSetting, IsOldEnd}
+use Rattle.cpg_schema.proofs.Among.{applied_is_graph, new_within}
 use Rattle.graph_store.specs.declared.names.TheConstants.{NO_NAME}
 use Rattle.graph_store.specs.declared.node_row.NodeRow.{NodeRow}
 use Rattle.graph_store.specs.declared.edge.Edge.{Edge}
@@ -15,15 +16,14 @@ use Rattle.graph_store.specs.declared.delta_row.EndRow.TheVariants as end_row
 use Rattle.graph_store.specs.declared.delta_row.NewEdgeRow.{NewEdgeRow}
 use Rattle.graph_store.specs.declared.delta_row.SettingRow.{SettingRow}
 use Rattle.graph_store.specs.Pool.{Adds, Numbers}
-use Rattle.graph_store.specs.Stored.{StoredGraph, plain, plain_edge}
-use Rattle.graph_store.specs.Rows.{plain_node, renumbered, HasNames, IsVariable, AreGraphRows}
+use Rattle.graph_store.specs.Stored.{StoredGraph, plain, plain_edge, IsVariable}
+use Rattle.graph_store.specs.Rows.{plain_node, renumbered, HasNames, AreGraphRows}
 use Rattle.cpg_schema.specs.Deltas.{IsNewEnd}
 use Rattle.graph_store.specs.DeltaRows.{plain_delta, plain_new_edge, plain_setting, plain_end, IsNewEdgeRow, AreDeltaRows}
 use Rattle.graph_store.specs.GrownRows.{HasSmallEnds, end_row_number, edge_of_row, rows_with_settings}
 use Rattle.graph_store.proofs.Pool.{adds_keep, length_adds}
 use Rattle.graph_store.proofs.Keeping.{keeps_nodes, keeps_edges, more_names}
 use Rattle.graph_store.proofs.Growing.{new_nodes, new_texts, old_nodes, old_texts, new_edges, new_variables, length-rows_with_settings}
-use Rattle.graph_store.proofs.Among.{KeepsLabels, all_among, append_keeps, set_keeps, set_front}
 
 -- the graph that is kept so
 abbrev pub kept_graph : List (List ℕ) → List NodeRow → List Edge → Caps → StoredGraph
@@ -78,21 +78,11 @@ module _ (a b more : List (List ℕ)) (nodes : List NodeRow) (edges : List Edge)
 
   module _ (fits : Fits (plain (kept_graph a nodes edges caps)) (plain_delta more others additions settings))
       (nodes_fit : length nodes + length others ≤ caps.nodes) (edges_fit : length edges + length additions ≤ caps.edges) where
-    labels : KeepsLabels (map (plain_node a) nodes ++ map (plain_node more) others) (map (plain_node b) grown_nodes)
-    labels =
-        subst (KeepsLabels (map (plain_node a) nodes ++ map (plain_node more) others))
-        (set_front (map (plain_setting more) settings) (map (plain_node a) nodes) (map (plain_node more) others) fits.settings ∙ sym nodes_after)
-        (set_keeps (map (plain_setting more) settings) (map (plain_node a) nodes ++ map (plain_node more) others))
-
-    among_after : All (IsEdgeAmong (map (plain_node b) grown_nodes)) (map (plain_edge b) grown_edges)
-    among_after =
-        let size = length-map nodes (plain_node a) in
-        let all = map (plain_node a) nodes ++ map (plain_node more) others in
-        let old = all_among (map (plain_node a) nodes) all (append_keeps (map (plain_node a) nodes) (map (plain_node more) others)) (map (plain_edge a) edges) kept.among in
-        let new = subst (λ (n : ℕ). All (IsEdgeAmong all) (map (added_edge n) (map (plain_new_edge more) additions))) size fits.allowed in
-        let both = All-append (IsEdgeAmong all) (map (plain_edge a) edges) (map (added_edge (length nodes)) (map (plain_new_edge more) additions)) old new in
-        All-same (IsEdgeAmong (map (plain_node b) grown_nodes)) (map (plain_edge b) grown_edges) _ edges_after
-        (all_among all (map (plain_node b) grown_nodes) labels _ both)
+    -- it is well formed
+    grown_is_graph : IsGraph (plain (kept_graph b grown_nodes grown_edges caps))
+    grown_is_graph =
+        subst IsGraph (sym applied_kept)
+        (applied_is_graph (plain (kept_graph a nodes edges caps)) (plain_delta more others additions settings) kept.is_graph fits)
 
     -- and is well kept
     pub kept_after : AreGraphRows grown_nodes grown_edges b caps
@@ -106,6 +96,7 @@ module _ (a b more : List (List ℕ)) (nodes : List NodeRow) (edges : List Edge)
         record {
           few_nodes = omega arith;
           few_edges = omega arith;
+          small_nodes = kept.small_nodes;
           few_names = few;
           empty = empty_kept;
           texts = All-append (HasNames (length b)) (rows_with_settings numbers settings nodes) (map (renumbered numbers) others)
@@ -115,7 +106,7 @@ module _ (a b more : List (List ℕ)) (nodes : List NodeRow) (edges : List Edge)
           variables = All-append (IsVariable (length b)) edges (map (edge_of_row (length nodes) numbers) additions)
               (All-weaker (IsVariable (length a)) (IsVariable (length b)) (more_variable (length a) (length b) le) edges kept.variables)
               (new_variables b more numbers num few delta.few_names (length nodes) empty_kept (length others) additions delta.additions);
-          among = among_after;
+          is_graph = grown_is_graph;
         }
 
     number_small : caps.nodes < 4294967296 → (p : EndRow) → IsOldEnd (length nodes) (plain_end p) → IsNewEnd (length others) (plain_end p) → end_row_number (length nodes) p < 4294967296
@@ -144,3 +135,16 @@ module _ (a b more : List (List ℕ)) (nodes : List NodeRow) (edges : List Edge)
             (by xs (All-tail (IsNewEdgeRow (length others) (length more)) x xs all)
             (All-tail (λ (edge : NewEdge). IsOldEnd (length nodes) edge.from) (plain_new_edge more x) (map (plain_new_edge more) xs) from)
             (All-tail (λ (edge : NewEdge). IsOldEnd (length nodes) edge.to) (plain_new_edge more x) (map (plain_new_edge more) xs) to))
+
+-- settings that are new are of nodes that are there
+pub set_within : (names : List (List ℕ)) (settings : List SettingRow) (nodes : List PlainNode) (count : ℕ) → length nodes ≡ count →
+    All (IsNewSetting nodes) (map (plain_setting names) settings) → All (λ (s : SettingRow). s.node < count) settings
+set_within names settings nodes count size new =
+    by settings (subst (λ (n : ℕ). All (λ (s : Setting). s.node < n) (map (plain_setting names) settings)) size (new_within nodes (map (plain_setting names) settings) new))
+  where
+    by : (rows : List SettingRow) → All (λ (s : Setting). s.node < count) (map (plain_setting names) rows) → All (λ (s : SettingRow). s.node < count) rows
+    by [] all = All-nil (λ (s : SettingRow). s.node < count)
+    by (row ∷ rows) all =
+        All-cons (λ (s : SettingRow). s.node < count) row rows
+        (All-head (λ (s : Setting). s.node < count) (plain_setting names row) (map (plain_setting names) rows) all)
+        (by rows (All-tail (λ (s : Setting). s.node < count) (plain_setting names row) (map (plain_setting names) rows) all))

@@ -16,8 +16,8 @@ use Rattle.graph_store.specs.declared.delta_row.ValueRow.{ValueRow}
 use Rattle.graph_store.specs.declared.delta_row.ValueRow.TheVariants as value_row
 use Rattle.graph_store.specs.declared.delta_row.SettingRow.{SettingRow}
 use Rattle.graph_store.specs.Pool.{Numbers}
-use Rattle.graph_store.specs.Rows.{plain_node, renumbered, HasNames, IsNameOrNone, IsVariable}
-use Rattle.graph_store.specs.Stored.{plain_edge}
+use Rattle.graph_store.specs.Rows.{plain_node, renumbered, HasNames, IsNameOrNone}
+use Rattle.graph_store.specs.Stored.{plain_edge, IsVariable}
 use Rattle.graph_store.specs.DeltaRows.{plain_end, plain_new_edge, plain_value, plain_setting, HasText, IsNewEdgeRow}
 use Rattle.graph_store.specs.GrownRows.{end_row_number, edge_of_row, row_with_value, rows_with_settings}
 use Rattle.graph_store.proofs.Keeping.{no_text, plain_node-text, plain_node-number, text_has_names, number_has_names}

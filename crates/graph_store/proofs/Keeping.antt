@@ -11,8 +11,8 @@ use Rattle.graph_store.specs.declared.names.TheConstants.{NO_NAME}
 use Rattle.graph_store.specs.declared.node_row.NodeRow.{NodeRow}
 use Rattle.graph_store.specs.declared.edge.Edge.{Edge}
 use Rattle.graph_store.specs.Pool.{Adds}
-use Rattle.graph_store.specs.Rows.{plain_node, row_text, row_with_text, row_with_number, HasNames, IsNameOrNone, IsVariable}
-use Rattle.graph_store.specs.Stored.{plain_edge}
+use Rattle.graph_store.specs.Rows.{plain_node, row_text, row_with_text, row_with_number, HasNames, IsNameOrNone}
+use Rattle.graph_store.specs.Stored.{plain_edge, IsVariable}
 use Rattle.cpg_schema.specs.declared.end.End.{End}
 use Rattle.cpg_schema.specs.declared.end.End.TheVariants as end
 use Rattle.cpg_schema.specs.Properties.{Property}

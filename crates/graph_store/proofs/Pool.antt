@@ -9,11 +9,11 @@ use Rattle.indexmap.specs.IndexSet.{insert_key}
 use Rattle.std.specs.Option.{option_map}
 use Rattle.std.specs.Result.{OnErr}
 use Rattle.std.specs.Str.{bytes_eq}
-use Rattle.std.proofs.lemmas.List.{map_more, map-append, append-nil, append_assoc, take_at, length-append, get_or_append_left, get_or_at}
+use Rattle.std.proofs.lemmas.List.{map_more, map-append, append-nil, append_assoc, take_at, length-append, get_or_append_left, get_or_at, length-map}
 use Rattle.std.proofs.lemmas.List.Quantifiers.{position-Some}
 use Rattle.std.proofs.lemmas.Option.{slice_get-map, slice_get-get_or, slice_get_within}
 use Rattle.std.proofs.lemmas.Slice.Eq.{bytes_eq-Decides}
-use Rattle.graph_store.specs.Pool.{Adds, Numbers}
+use Rattle.graph_store.specs.Pool.{Adds, AreDistinct, Numbers}
 
 module _ {A : Type 0} where
   -- the name at a position whose vector is equal to the one looked up
@@ -133,3 +133,40 @@ length_adds a b adds = let e = ap length adds.is in let more = length-append a a
 pub on_err : {T E P : Type 0} (r : Result T E) → P → OnErr r P
 on_err (Ok x) p = tt
 on_err (Err e) p = p
+
+module _ {A : Type 0} (keys : List (Vec ℕ A)) (first : Vec ℕ A) (distinct : IsDistinct (λ (x y : Vec ℕ A). bytes_eq x.items y.items) keys) where
+  -- the bytes of the key at a position
+  key_bytes : (i : ℕ) (name : List ℕ) → slice_get (map items keys) i ≡ Some name → (i < length keys) × (items (get_or keys i first) ≡ name)
+  key_bytes i name is =
+      let within = slice_get_within (map items keys) i name is in
+      let size = length-map keys items in
+      let low : i < length keys = omega arith in
+      let there : slice_get (map items keys) i ≡ Some (items (get_or keys i first)) =
+      slice_get-map items keys i ∙ ap (option_map items) (slice_get-get_or keys i first low) in
+      (low, cc)
+
+  not_before : (i j : ℕ) (name : List ℕ) → i < j → slice_get (map items keys) i ≡ Some name → slice_get (map items keys) j ≡ Some name → ⊥
+  not_before i j name low one other =
+      let a = key_bytes i name one in
+      let b = key_bytes j name other in
+      let apart : bytes_eq (get_or keys i first).items (get_or keys j first).items ≡ false =
+      apart_from_distinct (λ (x y : Vec ℕ A). bytes_eq x.items y.items) keys i j first distinct low b.0 in
+      let same = (bytes_eq-Decides (get_or keys i first).items (get_or keys j first).items).1 (a.1 ∙ sym b.1) in
+      cc
+
+  one_position : (i j : ℕ) (name : List ℕ) → slice_get (map items keys) i ≡ Some name → slice_get (map items keys) j ≡ Some name → i ≡ j
+  one_position i j name one other =
+      by (nat_lt i j) refl (nat_lt j i) refl
+    where
+      by : (s : Bool) → nat_lt i j ≡ s → (t : Bool) → nat_lt j i ≡ t → i ≡ j
+      by true s t u = absurd (not_before i j name (ltb-true _ _ s) one other)
+      by false s true u = absurd (not_before j i name (ltb-true _ _ u) other one)
+      by false s false u =
+          let high : j ≤ i = ltb-false _ _ s in
+          let low : i ≤ j = ltb-false _ _ u in
+          omega arith
+
+-- the names of keys that differ from one another do too
+pub distinct_names : {A : Type 0} (keys : List (Vec ℕ A)) → IsDistinct (λ (x y : Vec ℕ A). bytes_eq x.items y.items) keys → AreDistinct (map items keys)
+distinct_names [] distinct = record { same = λ i j name one other. absurd (cc) }
+distinct_names (first ∷ keys) distinct = record { same = one_position (first ∷ keys) first distinct }

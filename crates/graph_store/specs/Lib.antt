@@ -1,6 +1,6 @@
+pub mod Pool
 pub mod Stored
 pub mod Values
-pub mod Pool
 pub mod Rows
 pub mod DeltaRows
 pub mod GrownRows

@@ -1,11 +1,17 @@
 -- Pooled names: each stands once in a list, and its number is its position.
-use Rattle.std.specs.Prelude.{ℕ, ◌≡◌, ◌<◌, List, ◌++◌, length, map, slice_get, slice_index}
+use Rattle.std.specs.Prelude.{ℕ, ◌≡◌, ◌<◌, List, ◌++◌, Some, length, map}
+use Rattle.std.specs.Prelude.{slice_get, slice_index}
 use Rattle.std.specs.declared.vec.Vec.{Vec}
 use Rattle.std.specs.HashSet.{HashSet}
 
 -- The names in a set of vectors of bytes.
 abbrev pub names_of : {A S : Type 0} → HashSet (Vec ℕ A) S → List (List ℕ)
 names_of set = map (λ name. name.items) set.keys
+
+-- No name stands twice.
+pub record AreDistinct (names : List (List ℕ)) : Type 0 where
+  pub same : (first second : ℕ) (name : List ℕ) →
+      slice_get names first ≡ Some name → slice_get names second ≡ Some name → first ≡ second
 
 -- Names were added at the end.
 pub record Adds (old new : List (List ℕ)) : Type 0 where

@@ -1,18 +1,17 @@
 -- The rows of a graph, and what they stand for. A text is the number of a pooled name, and where
 -- there is none `NO_NAME`, which is past all names.
-use Rattle.std.specs.Prelude.{ℕ, ◌≡◌, ◌<◌, ◌≤◌, ◌⊎◌, Bool, if◌then◌else◌, List, [], Option}
-use Rattle.std.specs.Prelude.{Some, None, length, map, slice_get, slice_index_or}
+use Rattle.std.specs.Prelude.{ℕ, ◌≡◌, ◌-◌, ◌^◌, ◌<◌, ◌≤◌, ◌⊎◌, Bool, List, [], Option}
+use Rattle.std.specs.Prelude.{if◌then◌else◌, Some, None, length, map, slice_get, slice_index_or}
 use Rattle.std.specs.List.{All}
 use Rattle.cpg_schema.specs.declared.key.Key.{Key}
 use Rattle.cpg_schema.specs.declared.key.Key.TheVariants as key
-use Rattle.cpg_schema.specs.declared.edge_kind.EdgeKind.TheVariants.{ReachingDef}
 use Rattle.cpg_schema.specs.declared.caps.Caps.{Caps}
-use Rattle.cpg_schema.specs.Graph.{PlainNode}
-use Rattle.cpg_schema.specs.Fitting.{IsEdgeAmong}
+use Rattle.cpg_schema.specs.Graph.{PlainNode, plain_graph}
+use Rattle.cpg_schema.specs.Fitting.{IsGraph}
 use Rattle.graph_store.specs.declared.names.TheConstants.{NO_NAME}
 use Rattle.graph_store.specs.declared.node_row.NodeRow.{NodeRow}
 use Rattle.graph_store.specs.declared.edge.Edge.{Edge}
-use Rattle.graph_store.specs.Stored.{plain_edge}
+use Rattle.graph_store.specs.Stored.{plain_edge, IsVariable}
 
 -- The number, where there is one.
 abbrev pub number_if : Bool → ℕ → Option ℕ
@@ -86,18 +85,15 @@ pub record HasNames (count : ℕ) (row : NodeRow) : Type 0 where
   pub control_structure_type : IsNameOrNone count row.control_structure_type
   pub linkage : IsNameOrNone count row.linkage
 
--- The variable of an edge is one of so many names, and the empty one except on a REACHING_DEF.
-pub record IsVariable (count : ℕ) (edge : Edge) : Type 0 where
-  pub pooled : edge.variable < count
-  pub unnamed : (edge.kind ≡ ReachingDef) ⊎ (edge.variable ≡ 0)
-
 -- What always holds of the rows, the edges, the names and the caps of a graph.
 pub record AreGraphRows
     (rows : List NodeRow) (edges : List Edge) (names : List (List ℕ)) (caps : Caps) : Type 0 where
   pub few_nodes : length rows ≤ caps.nodes
   pub few_edges : length edges ≤ caps.edges
+  pub small_nodes : caps.nodes < 2 ^ 32 - 1
   pub few_names : length names ≤ NO_NAME
   pub empty : slice_get names 0 ≡ Some []
   pub texts : All (HasNames (length names)) rows
   pub variables : All (IsVariable (length names)) edges
-  pub among : All (IsEdgeAmong (map (plain_node names) rows)) (map (plain_edge names) edges)
+  pub is_graph :
+      IsGraph (plain_graph (map (plain_node names) rows) (map (plain_edge names) edges))

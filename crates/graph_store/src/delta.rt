@@ -1,11 +1,10 @@
 //! Deltas: what is to be added to a graph.
 
-ghost use Rattle.std.specs.Prelude.{◌≡◌, ◌⊎◌, ◌+◌, ◌<◌, ◌≤◌, ◌∷◌, ◌++◌, [], IsTrue, not, length};
+ghost use Rattle.std.specs.Prelude.{◌≡◌, ◌+◌, ◌<◌, ◌≤◌, ◌∷◌, ◌++◌, [], IsTrue, not, length};
 ghost use Rattle.std.specs.Prelude.{OnOk, OnErr, IfOk};
-ghost use Rattle.cpg_schema.specs.Graph.{bare_node};
+ghost use Rattle.cpg_schema.specs.Graph.{bare_node, IsVariableOf};
 ghost use Rattle.cpg_schema.specs.Properties.{HasForm, Property, is_number_key};
 ghost use Rattle.cpg_schema.specs.Deltas.{IsNewEnd, empty_delta, set_at};
-ghost use Rattle.cpg_schema.specs.declared.edge_kind.EdgeKind.TheVariants.{ReachingDef};
 ghost use Rattle.graph_store.specs.Values.{property_of};
 
 use crate::delta_row::{EndRow, NewEdgeRow, SettingRow, ValueRow};
@@ -96,7 +95,7 @@ impl Delta {
     ) -> Result<(), AllocError>
         requires from { IsNewEnd (length self.old.nodes) from }
         requires to { IsNewEnd (length self.old.nodes) to }
-        requires unnamed { (kind ≡ ReachingDef) ⊎ (variable.now ≡ []) }
+        requires variable { IsVariableOf kind variable.now }
         ensures ok { OnOk result (self.new ≡ record self.old {
           edges = self.old.edges
               ++ record { from = from; kind = kind; to = to; variable = variable.now } ∷ [];

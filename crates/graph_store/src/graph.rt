@@ -1,12 +1,9 @@
 //! The graph and its readers, each of which takes constant time.
 
-ghost use Rattle.std.specs.Prelude.{◌≡◌, ◌<◌, ◌^◌, ◌∷◌, [], Some, length, map, slice_get};
+ghost use Rattle.std.specs.Prelude.{◌≡◌, ◌-◌, ◌<◌, ◌^◌, ◌∷◌, [], Some, length, slice_get};
 ghost use Rattle.std.specs.Prelude.{slice_index_or, option_copied, option_and_then, IfOk};
-ghost use Rattle.std.specs.List.{All};
 ghost use Rattle.std.specs.Option.{option_map};
 ghost use Rattle.cpg_schema.specs.Properties.{text_of, number_of};
-ghost use Rattle.cpg_schema.specs.Fitting.{IsEdgeAmong};
-ghost use Rattle.graph_store.specs.Stored.{plain_edge};
 
 use crate::edge::Edge;
 use crate::names::Names;
@@ -48,6 +45,7 @@ impl Graph {
     /// The empty graph with these caps. Its names are hashed with this key, so take one that who
     /// chooses the names can't foresee.
     pub fn new(alloc: Global, caps: Caps, hashes: RandomState) -> Result<Graph, AllocError>
+        requires { caps.nodes < 2 ^ 32 - 1 }
         ensures { IfOk result (λ graph. graph ≡
             record { nodes = []; edges = []; names = [] ∷ []; caps = caps }) }
     {
@@ -99,13 +97,8 @@ impl Graph {
 
     /// The edges, in the order in which they were added.
     pub fn edges(&self) -> &[Edge]
-        ensures edges { result.now ≡ self.now.edges }
-        ensures few { length self.now.edges < 2 ^ 32 }
-        ensures among { All (IsEdgeAmong self.now.nodes)
-            (map (plain_edge self.now.names) self.now.edges) }
-        ensures named { All (λ edge. edge.variable < length self.now.names) self.now.edges }
+        ensures { result.now ≡ self.now.edges }
     {
-        let _cap = self.caps.edges;
         self.edges.as_slice()
     }
 

@@ -8,6 +8,7 @@ mod delta;
 mod delta_row;
 mod edge;
 mod graph;
+pub mod laws;
 mod names;
 mod node_row;
 #[cfg(test)]

@@ -2,7 +2,7 @@
 
 ghost use Rattle.std.specs.Prelude.{◌≡◌, ◌+◌, ◌<◌, ◌≤◌, ◌++◌, [], length, take, map, slice_get};
 ghost use Rattle.std.specs.Prelude.{slice_index_or, option_copied, IfOk, IfSome, OnOk, OnErr, Some};
-ghost use Rattle.graph_store.specs.Pool.{Adds, Numbers};
+ghost use Rattle.graph_store.specs.Pool.{Adds, AreDistinct, Numbers};
 ghost use Rattle.graph_store.specs.Rows.{IsNameOrNone};
 
 use indexmap::IndexSet;
@@ -67,6 +67,13 @@ impl Names {
         ensures few { length self.now ≤ NO_NAME }
     {
         self.set.len() as u32
+    }
+
+    /// No name stands twice.
+    pub(crate) fn law_distinct(&self)
+        ensures { AreDistinct self.now }
+    {
+        let _ = self.set.as_slice();
     }
 
     /// The name of this number, where there is one.

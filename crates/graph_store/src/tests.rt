@@ -1,6 +1,6 @@
 //! Deltas on small graphs: each public call once with ample memory, and the refusals of `apply`.
 
-ghost use Rattle.std.specs.Prelude.{◌≡◌, ◌∷◌, [], Some, codes, IfOk};
+ghost use Rattle.std.specs.Prelude.{◌≡◌, ◌-◌, ◌<◌, ◌^◌, ◌∷◌, [], Some, codes, IfOk};
 ghost use Rattle.cpg_schema.specs.declared.end.End.TheVariants.{New, Old};
 ghost use Rattle.cpg_schema.specs.declared.label.Label.TheVariants.{File, NamespaceBlock};
 ghost use Rattle.cpg_schema.specs.declared.edge_kind.EdgeKind.TheVariants.{Ast};
@@ -15,6 +15,7 @@ use std::hash::RandomState;
 use std::test::Fail;
 
 fn empty_graph(rt: &HostRuntime, nodes: u32, edges: u32) -> Result<Graph, Fail>
+    requires { nodes < 2 ^ 32 - 1 }
     ensures { IfOk result (λ graph. graph.nodes ≡ []) }
 {
     let hashes = RandomState::new(rt)?;

@@ -16,7 +16,7 @@ use Rattle.std.specs.Prelude.{
   refl,
 }
 use borrow.Author.Tests.{clash}
-use Rattle.std.proofs.Common.{ap}
+use Rattle.std.proofs.Common.{ap, inr}
 use Rattle.std.specs.List.{All}
 use Rattle.std.proofs.lemmas.List.Elements.{All-nil, All-cons}
 use Rattle.cpg_schema.specs.declared.caps.Caps.{Caps}
@@ -29,7 +29,8 @@ use Rattle.cpg_schema.specs.Names.{kind_rank}
 use Rattle.cpg_schema.specs.Graph.{PlainNode, PlainGraph, bare_node}
 use Rattle.cpg_schema.specs.Properties.{with_number}
 use Rattle.cpg_schema.specs.Deltas.{NewEdge, PlainDelta, added_edge}
-use Rattle.cpg_schema.specs.Fitting.{Fits, IsEdgeAmong, IsOldEnd}
+use Rattle.cpg_schema.specs.Fitting.{Fits, IsEdgeAmong, IsOldEnd, PartsFit}
+use Rattle.cpg_schema.proofs.Apart.{apart_none, parts_fit_alone}
 use Rattle.cpg_schema.specs.Sequence.{seq}
 use Rattle.cpg_schema.specs.Shape.{IsShaped}
 use Rattle.graph_delta.proofs.Fitting.{get_behind}
@@ -48,7 +49,7 @@ typed_local count = record {
 }
 
 -- It fits every graph.
-pub typed_local_fits : (graph : PlainGraph) (count : ℕ) → Fits graph (typed_local count)
+typed_local_fits : (graph : PlainGraph) (count : ℕ) → Fits graph (typed_local count)
 typed_local_fits graph count =
     let new : List PlainNode = (typed_local count).nodes in
     let first = length graph.nodes in
@@ -58,6 +59,7 @@ typed_local_fits graph count =
       to = bare_node label.TypeNode;
       to_is = get_behind graph.nodes new (first + 1) 1 refl;
       allowed = refl;
+      variable = inr refl;
     } in
     record {
       old_from =
@@ -66,8 +68,16 @@ typed_local_fits graph count =
       allowed =
           All-cons (IsEdgeAmong (graph.nodes ++ new)) (added_edge first type_edge) [] among
           (All-nil _);
-      settings = tt;
+      settings = All-nil _;
+      apart = apart_none;
     }
+
+-- So do several of them.
+pub typed_locals_fit : (start : PlainGraph) (count parts : ℕ) →
+    PartsFit start (λ (part : ℕ). typed_local count) parts
+typed_locals_fit start count parts =
+    parts_fit_alone start (λ (part : ℕ). typed_local count) parts (λ k low. refl)
+    (λ k low. typed_local_fits start count)
 
 -- And it adds no AST edge.
 pub stays_shaped_by : (caps : Caps) (start : PlainGraph) (count parts : ℕ) → IsShaped start →

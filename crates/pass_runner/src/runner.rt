@@ -1,12 +1,14 @@
 //! A pass by one worker.
 
 ghost use Rattle.std.specs.Prelude.{◌≡◌, Err, IfOk, OnOk};
+ghost use Rattle.cpg_schema.specs.Fitting.{IsGraph};
 ghost use Rattle.cpg_schema.specs.Sequence.{Cap, seq};
 ghost use Rattle.graph_store.specs.Stored.{plain};
 ghost use Rattle.pass_runner.specs.Runs.{GrowsByParts};
 
 use graph_delta::{ApplyStop, Pass, absorb, apply};
 use graph_store::Graph;
+use graph_store::laws::law_stored;
 use std::alloc::Global;
 
 /// The graph with all parts of a pass, one after another.
@@ -25,6 +27,7 @@ pub fn run_pass_one<P: Pass>(alloc: Global, pass: &P, graph: Graph) -> Result<Gr
     ensures too_many_edges { result ≡ Err ApplyStop.TooManyEdges → seq graph.caps (plain graph)
         (P.delta_of pass.now (plain graph)) (P.parts_of pass.now (plain graph)) ≡ Err Cap.edges }
 {
+    law_stored(&graph);
     let mut grown = graph;
     if pass.parts(&grown) == 1 {
         run_only_part(alloc, pass, &mut grown)?;
@@ -37,8 +40,9 @@ pub fn run_pass_one<P: Pass>(alloc: Global, pass: &P, graph: Graph) -> Result<Gr
 
 /// Adds the one part of a pass to a graph.
 fn run_only_part<P: Pass>(alloc: Global, pass: &P, graph: &mut Graph) -> Result<(), ApplyStop>
+    requires is_graph { IsGraph (plain graph.old) }
     requires takes { P.takes pass.now (plain graph.old) }
-    requires one { P.parts_of pass.now (plain graph.old) ≡ 1 }
+    requires alone { P.parts_of pass.now (plain graph.old) ≡ 1 }
     ensures ok { OnOk result (GrowsByParts graph.old graph.new
         (P.delta_of pass.now (plain graph.old)) 1) }
     ensures too_many_nodes { result ≡ Err ApplyStop.TooManyNodes →
@@ -60,6 +64,7 @@ fn run_parts<P: Pass>(
     start: &Graph,
     graph: &mut Graph,
 ) -> Result<(), ApplyStop>
+    requires is_graph { IsGraph (plain start.now) }
     requires takes { P.takes pass.now (plain start.now) }
     requires equal { graph.old ≡ start.now }
     ensures ok { OnOk result (GrowsByParts start.now graph.new

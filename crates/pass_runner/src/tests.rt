@@ -20,7 +20,7 @@ impl Pass for TypedLocals {
     type Ready = u32;
 
     ghost use Rattle.cpg_schema.specs.Shape.{IsShaped};
-    ghost use Rattle.pass_runner.specs.TypedLocals.{typed_local, typed_local_fits, stays_shaped_by};
+    ghost use Rattle.pass_runner.specs.TypedLocals.{typed_local, typed_locals_fit, stays_shaped_by};
 
     ghost takes = { λ _ graph. IsShaped graph };
 
@@ -53,9 +53,9 @@ impl Pass for TypedLocals {
         Ok(delta)
     }
 
-    ghost fits = { λ _ _ start graph _ _ _ _. typed_local_fits graph (length start.nodes) };
+    ghost fits = { λ pass start _ _. typed_locals_fit start (length start.nodes) pass.parts };
 
-    ghost shapes = { λ pass caps start graph shaped is.
+    ghost shapes = { λ pass caps start graph _ shaped is.
         stays_shaped_by caps start (length start.nodes) pass.parts shaped graph is };
 }
 
@@ -75,6 +75,7 @@ const RUNS: [(u32, u32, u32, Result<u32, ApplyStop>); 9] = [
 #[test]
 fn a_run_ends_at_the_first_part_that_passes_a_cap(rt: HostRuntime) -> Result<(), Fail> {
     for (parts, nodes, edges, want) in RUNS {
+        assert!(rt; nodes < u32::MAX);
         let graph = Graph::new(rt.alloc(), Caps { nodes, edges }, RandomState::new(&rt)?)?;
         let after = run_pass_one(rt.alloc(), &TypedLocals { parts }, graph);
         assert_eq!(rt; after.map(|graph| graph.len()), want, "{parts} parts");

@@ -3,9 +3,9 @@ use Rattle.cpg_schema.specs.Deltas.{PlainDelta}
 use Rattle.cpg_schema.specs.Fitting.{Fits}
 use Rattle.graph_store.specs.Stored.{plain}
 use Rattle.ast_layer.specs.Parts.{sources_of}
-use Rattle.ast_layer.specs.PassLaws.{parts_fit}
+use Rattle.ast_layer.specs.PassLaws.{part_fits}
 use Rattle.ast_layer.proofs.tests.graph_of.Goals as goal
 
 pub apply-requires : goal.apply-requires
 apply-requires c =
-    subst (λ (delta : PlainDelta). Fits (plain c.loop-part.graph) delta) (sym c.in_ok-delta.ensures) (parts_fit (sources_of c.args.pass.now) (plain c.loop-part.graph) c.loop-part.part)
+    subst (λ (delta : PlainDelta). Fits (plain c.loop-part.graph) delta) (sym c.in_ok-delta.ensures) (part_fits (sources_of c.args.pass.now) (plain c.loop-part.graph) c.loop-part.part)

@@ -15,7 +15,7 @@ loop-node-init g c =
     let near = g.D.Direction.near_of in
     let edges = c.args.graph.now.edges in
     sorting_none near g.D.Direction.far_of c.args.graph.now.names edges c.args.edges.now
-    (grouped_permutation near edges (length c.args.starts.now - 1) c.args.edges.now c.requires.within c.requires.grouped) c.requires.grouped
+    (grouped_permutation near edges (length c.args.starts.now - 1) c.args.edges.now c.requires.inside c.requires.grouped) c.requires.grouped
 
 pub slice_bounds-sort_row-count : goal.slice_bounds-sort_row-count
 slice_bounds-sort_row-count g c =
@@ -78,4 +78,4 @@ loop-node-preserved g c =
     let from = c.requires.starts.each (node - 1) (omega arith) in
     let to = c.requires.starts.each node c.loop-node-test.true in
     next_node near g.D.Direction.far_of c.args.graph.now.names edges c.loop-node.edges c.sort_row.new.row node
-    (slice_index c.args.starts.now (node - 1)) (slice_index c.args.starts.now node) (omega arith) from to c.loop-node.invariant c.sort_row.ensures.order c.sort_row.ensures.same
+    (slice_index c.args.starts.now (node - 1)) (slice_index c.args.starts.now node) (omega arith) from to c.loop-node.invariant c.sort_row.ensures.order c.sort_row.ensures.permutation

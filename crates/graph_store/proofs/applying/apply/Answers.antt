@@ -7,9 +7,8 @@ use Rattle.graph_store.specs.Stored.{StoredGraph, plain}
 use Rattle.graph_store.specs.Rows.{plain_node, renumbered}
 use Rattle.graph_store.specs.DeltaRows.{plain_delta}
 use Rattle.graph_store.specs.GrownRows.{rows_with_settings, edge_of_row}
-use Rattle.graph_store.proofs.Among.{set_within}
 use Rattle.graph_store.proofs.Growing.{length-rows_with_settings}
-use Rattle.graph_store.proofs.Applied.{applied_kept, kept_after, ends_small}
+use Rattle.graph_store.proofs.Applied.{applied_kept, kept_after, ends_small, set_within}
 use Rattle.graph_store.proofs.applying.apply.Goals as goal
 
 pub set_all-requires : goal.set_all-requires

@@ -1,4 +1,4 @@
-use Rattle.std.proofs.Common.{◌≡◌, List, [], ◌∷◌, Some, codes, refl, lit<, sym, subst}
+use Rattle.std.proofs.Common.{inr, ◌≡◌, List, [], ◌∷◌, Some, codes, refl, lit<, sym, subst}
 use Rattle.std.proofs.lemmas.List.Elements.{All-nil, All-cons}
 use Rattle.cpg_schema.specs.declared.label.Label.TheVariants.{File, NamespaceBlock}
 use Rattle.cpg_schema.specs.declared.edge_kind.EdgeKind.TheVariants.{Ast}
@@ -6,6 +6,7 @@ use Rattle.cpg_schema.specs.declared.end.End.TheVariants.{Old}
 use Rattle.cpg_schema.specs.Graph.{PlainNode, PlainEdge, PlainGraph, bare_node, plain_graph}
 use Rattle.cpg_schema.specs.Deltas.{NewEdge, PlainDelta, added_edge}
 use Rattle.cpg_schema.specs.Fitting.{IsOldEnd, IsEdgeAmong, Fits}
+use Rattle.cpg_schema.proofs.Apart.{apart_none}
 use Rattle.graph_store.specs.Stored.{plain}
 use Rattle.graph_store.proofs.tests.a_graph_and_its_copy_read_alike_after_a_refusal.Goals as goal
 
@@ -31,8 +32,9 @@ more_fits edges = record {
   old_from = All-cons (λ (e : NewEdge). IsOldEnd 2 e.from) edge [] (lit< tt) (All-nil _);
   old_to = All-cons (λ (e : NewEdge). IsOldEnd 2 e.to) edge [] (lit< tt) (All-nil _);
   allowed =
-      All-cons (IsEdgeAmong (file ∷ block ∷ [])) (added_edge 2 edge) [] (record { from = file; from_is = refl; to = block; to_is = refl; allowed = refl }) (All-nil _);
-  settings = tt;
+      All-cons (IsEdgeAmong (file ∷ block ∷ [])) (added_edge 2 edge) [] (record { from = file; from_is = refl; to = block; to_is = refl; allowed = refl; variable = inr refl }) (All-nil _);
+  settings = All-nil _;
+  apart = apart_none;
 }
 
 fits_by : (graph : PlainGraph) (delta : PlainDelta) → graph.nodes ≡ file ∷ block ∷ [] → delta ≡ more → Fits graph delta

@@ -1,4 +1,4 @@
-use Rattle.std.proofs.Common.{◌≡◌, List, [], ◌∷◌, Some, codes, refl, ap, sym, subst, ◌∙◌}
+use Rattle.std.proofs.Common.{inr, ◌≡◌, List, [], ◌∷◌, Some, codes, refl, ap, sym, subst, ◌∙◌}
 use Rattle.std.proofs.lemmas.List.Elements.{All-nil, All-cons}
 use Rattle.cpg_schema.specs.declared.label.Label.TheVariants.{File, NamespaceBlock}
 use Rattle.cpg_schema.specs.declared.key.Key.TheVariants.{Name}
@@ -7,7 +7,8 @@ use Rattle.cpg_schema.specs.declared.end.End.TheVariants.{New}
 use Rattle.cpg_schema.specs.Graph.{PlainNode, PlainEdge, PlainGraph, bare_node, plain_graph}
 use Rattle.cpg_schema.specs.Properties.{Property}
 use Rattle.cpg_schema.specs.Deltas.{NewEdge, PlainDelta, added_edge, applied}
-use Rattle.cpg_schema.specs.Fitting.{IsOldEnd, IsEdgeAmong, Fits}
+use Rattle.cpg_schema.specs.Fitting.{IsOldEnd, IsEdgeAmong, IsNewSetting, Fits}
+use Rattle.cpg_schema.proofs.Apart.{apart_none, apart_one}
 use Rattle.graph_store.specs.Stored.{plain}
 use Rattle.graph_store.proofs.tests.small_graph.Goals as goal
 
@@ -41,8 +42,9 @@ first_fits edges = record {
   old_from = All-cons (λ (e : NewEdge). IsOldEnd 0 e.from) edge [] tt (All-nil _);
   old_to = All-cons (λ (e : NewEdge). IsOldEnd 0 e.to) edge [] tt (All-nil _);
   allowed =
-      All-cons (IsEdgeAmong (file ∷ block ∷ [])) (added_edge 0 edge) [] (record { from = file; from_is = refl; to = block; to_is = refl; allowed = refl }) (All-nil _);
-  settings = tt;
+      All-cons (IsEdgeAmong (file ∷ block ∷ [])) (added_edge 0 edge) [] (record { from = file; from_is = refl; to = block; to_is = refl; allowed = refl; variable = inr refl }) (All-nil _);
+  settings = All-nil _;
+  apart = apart_none;
 }
 
 second_fits : (edges : List PlainEdge) → Fits (plain_graph (file ∷ block ∷ []) edges) second
@@ -50,7 +52,10 @@ second_fits edges = record {
   old_from = All-nil _;
   old_to = All-nil _;
   allowed = All-nil _;
-  settings = (record { node = block; node_is = refl; lacks = (refl, refl) }, tt);
+  settings =
+      All-cons (IsNewSetting (file ∷ block ∷ [])) (record { node = 1; key = Name; value = Property.text (codes "<global>") }) []
+      (record { node = block; node_is = refl; lacks = (refl, refl); form = refl }) (All-nil _);
+  apart = apart_one _;
 }
 
 -- A delta that fits a graph of these nodes fits each that has them.

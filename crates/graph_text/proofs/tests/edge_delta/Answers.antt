@@ -1,4 +1,4 @@
-use Rattle.std.proofs.Common.{rules, ◌<◌, [], IsTrue, length, arith}
+use Rattle.std.proofs.Common.{rules, ◌<◌, [], IsTrue, length, inl, inr, refl, arith}
 use Rattle.cpg_schema.specs.Schema.{allows}
 use Rattle.graph_store.specs.Stored.{plain}
 use Rattle.edge_index.proofs.OneEdge.{one_edge_fits}
@@ -14,8 +14,8 @@ returns c =
     elim c.match-kind.branch [
       | in-ReachingDef+in_ok-edge-in-ReachingDef w ↦
           rw (w.delta-is, w.in_ok-edge-in-ReachingDef.ensures.ok, c.new-delta.ensures)
-          (one_edge_fits graph c.args.from c.args.to c.args.kind c.args.variable.now c.node.result c.node-2.result from to c.node.ensures c.node-2.ensures allowed)
+          (one_edge_fits graph c.args.from c.args.to c.args.kind c.args.variable.now c.node.result c.node-2.result from to c.node.ensures c.node-2.ensures allowed (inl (cc)))
       | in_default+in_ok-edge-in_default w ↦
           rw (w.delta-is, w.in_ok-edge-in_default.ensures.ok, c.new-delta.ensures)
-          (one_edge_fits graph c.args.from c.args.to c.args.kind [] c.node.result c.node-2.result from to c.node.ensures c.node-2.ensures allowed)
+          (one_edge_fits graph c.args.from c.args.to c.args.kind [] c.node.result c.node-2.result from to c.node.ensures c.node-2.ensures allowed (inr refl))
     ]

@@ -4,10 +4,10 @@ use Rattle.cpg_schema.specs.Graph.{PlainNode}
 use Rattle.graph_forest.specs.Forest.{leaf}
 use Rattle.graph_forest.specs.Nodes.{plain_node}
 use Rattle.graph_forest.specs.Planting.{Planting, Plants, Enters}
-use Rattle.ast_layer.specs.declared.rank.Rank.{Rank}
+use Rattle.graph_forest.specs.declared.rank.Rank.{Rank}
 use Rattle.ast_layer.specs.Source.{File, file_of}
 use Rattle.ast_layer.specs.Grouping.{Grouped, to_the_right, grouped_binary, operand_token}
-use Rattle.ast_layer.specs.Ranks.{argument}
+use Rattle.graph_forest.specs.Ranks.{argument}
 use Rattle.ast_layer.specs.Nodes.{call_node, operand_node}
 use Rattle.ast_layer.specs.Forests.{grouped_forest}
 use Rattle.ast_layer.proofs.Chains.{LeavesMany, targets_step, targets_end, leaves_step, leaves_none}

@@ -4,7 +4,7 @@ use Rattle.cpg_schema.specs.Graph.{PlainNode}
 use Rattle.graph_forest.specs.Forest.{leaf}
 use Rattle.graph_forest.specs.Nodes.{plain_node}
 use Rattle.graph_forest.specs.Planting.{Plants, Enters}
-use Rattle.ast_layer.specs.declared.rank.Rank.{Rank}
+use Rattle.graph_forest.specs.declared.rank.Rank.{Rank}
 use Rattle.ast_layer.specs.Source.{File, file_of}
 use Rattle.ast_layer.specs.Grouping.{Operand, to_the_left, operand_token}
 use Rattle.ast_layer.specs.Nodes.{call_node, operand_node}

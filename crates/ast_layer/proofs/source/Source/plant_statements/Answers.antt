@@ -1,9 +1,9 @@
 use Rattle.std.proofs.Common.{◌≡◌, ℕ, ◌+◌, ◌<◌, Option, Some, None, length, drop, subst, sym, ap, ◌∙◌}
 use Rattle.graph_forest.specs.Planting.{Plants}
-use Rattle.ast_layer.specs.declared.rank.Rank.{Rank}
+use Rattle.graph_forest.specs.declared.rank.Rank.{Rank}
 use Rattle.ast_layer.specs.Source.{File, file_of}
 use Rattle.ast_layer.specs.Grouping.{Grouped, grouped_assign}
-use Rattle.ast_layer.specs.Ranks.{child}
+use Rattle.graph_forest.specs.Ranks.{child}
 use Rattle.ast_layer.specs.Forests.{grouped_forest, children_forest, expressions, statement}
 use Rattle.ast_layer.proofs.Children.{statement_is, statements_step, statements_skip, statements_end}
 use Rattle.ast_layer.proofs.source.Source.plant_statements.Goals as goal

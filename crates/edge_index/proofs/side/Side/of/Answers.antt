@@ -22,7 +22,7 @@ returns-clause-order g c =
     let count : length c.deref.result.now - 1 ≡ c.args.count = omega arith in
     let rows = subst (λ (n : ℕ). AreRows near far graph.names n graph.edges now) count c.sort_rows.ensures.rows in
     subst (AreInOrder (seen near far graph.names) graph.edges) (sym is)
-    (are_in_order near far graph.names c.args.count graph.edges now c.requires.within rows c.sort_rows.ensures.same)
+    (are_in_order near far graph.names c.args.count graph.edges now c.requires.inside rows c.sort_rows.ensures.permutation)
 
 pub returns-clause-side : goal.returns-clause-side
 returns-clause-side g c =
@@ -39,6 +39,6 @@ returns-clause-side g c =
     let len = c.in_ok-side.ensures.len in
     let count : length c.deref.result.now - 1 ≡ c.args.count = omega arith in
     let rows = subst (λ (n : ℕ). AreRows near far graph.names n graph.edges now) count c.sort_rows.ensures.rows in
-    let cuts = subst (λ (edges : List Edge). AreStarts near edges side.starts.items) c.edges.ensures.edges c.in_ok-side.ensures.starts in
+    let cuts = subst (λ (edges : List Edge). AreStarts near edges side.starts.items) c.edges.ensures c.in_ok-side.ensures.starts in
     subst (IsSide near side.starts.items) (sym is)
-    (is_side near far graph.names c.args.count graph.edges now c.requires.within rows c.sort_rows.ensures.same side.starts.items len cuts)
+    (is_side near far graph.names c.args.count graph.edges now c.requires.inside rows c.sort_rows.ensures.permutation side.starts.items len cuts)

@@ -14,10 +14,10 @@ pub returns : goal.returns
 returns g c =
     let s = c.args.self.now in
     let from = at_position s.starts.items c.args.node c.index.result.now (omega arith) c.index.ensures in
-    let to = at_position s.starts.items (c.args.node + 1) c.index-2.result.now c.requires.within c.index-2.ensures in
+    let to = at_position s.starts.items (c.args.node + 1) c.index-2.result.now c.requires.inside c.index-2.ensures in
     let row : take (c.index-2.result.now - c.index.result.now) (drop c.index.result.now c.deref.result.now) ≡ row_of s.starts.items s.edges.items c.args.node =
     rw (c.deref.ensures.value, from, to) refl in
     let of_kind = λ (edge : Edge). kind_rank edge.kind == kind_rank c.args.kind in
     c.of_kind.ensures ∙
-    (ap (filter of_kind) (row ∙ c.requires.side.rows c.args.node c.requires.within) ∙
+    (ap (filter of_kind) (row ∙ c.requires.side.rows c.args.node c.requires.inside) ∙
     filter-filter (λ (edge : Edge). g.D.Direction.near_of edge == c.args.node) of_kind s.edges.items)

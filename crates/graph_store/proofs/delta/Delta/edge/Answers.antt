@@ -36,7 +36,7 @@ invariant_of-self-2 c =
     rw c.in_ok-push.ensures.items
     (delta_edge c.variable_of.new.self o.nodes.items o.edges.items o.settings.items edge
     (addition_fits (length o.nodes.items) (length c.variable_of.new.self) edge c.args.from c.args.to c.args.variable.now from to
-    c.of.ensures c.of-2.ensures v.number c.requires.unnamed v.unnamed)
+    c.of.ensures c.of-2.ensures v.number c.requires.variable v.unnamed)
     (delta_names o.names c.variable_of.new.self o.nodes.items o.edges.items o.settings.items v.adds v.few c.self.invariant))
 
 pub returns-clause-ok : goal.returns-clause-ok

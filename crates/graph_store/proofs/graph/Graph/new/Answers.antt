@@ -16,11 +16,12 @@ invariant_of-result c =
     rw (c.new.ensures.items, c.new-2.ensures.items, names) (record {
       few_nodes = omega arith;
       few_edges = omega arith;
+      small_nodes = c.requires;
       few_names = omega arith;
       empty = refl;
       texts = All-nil _;
       variables = All-nil _;
-      among = All-nil _;
+      is_graph = record { edges = All-nil _ };
     })
 
 pub returns : goal.returns
