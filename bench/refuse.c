@@ -1,12 +1,9 @@
 /* Loaded before the C library, it refuses one allocation of a process: that of the number in REFUSE, from 1.
    It writes the number of allocations that were asked for into the file that REFUSE_COUNT names, when the process ends. */
 #define _GNU_SOURCE
-#include <dlfcn.h>
 #include <errno.h>
 #include <fcntl.h>
-#include <stddef.h>
 #include <stdlib.h>
-#include <string.h>
 #include <unistd.h>
 
 extern void *__libc_malloc(size_t size);
