@@ -1,0 +1,6 @@
+pub mod Entries
+pub mod Held
+pub mod Views
+pub mod Seats
+pub mod Rule
+pub mod Steps
