@@ -29,7 +29,7 @@ pub(crate) fn ends_line(bytes: &[u8], at: usize) -> bool
 /// Where the line ends that `from` stands in.
 pub(crate) fn line_end(bytes: &[u8], from: usize) -> usize
     requires { from ≤ length bytes.now }
-    ensures low { from ≤ result }
+    ensures forward { from ≤ result }
     ensures within { result ≤ length bytes.now }
     ensures one_line { OnOneLine bytes.now from result }
     ensures ends { EndsLine bytes.now result }
@@ -44,7 +44,7 @@ pub(crate) fn line_end(bytes: &[u8], from: usize) -> usize
 /// Where the run of blanks from `from` on ends, on its line.
 pub(crate) fn blanks_end(bytes: &[u8], from: usize) -> usize
     requires { from ≤ length bytes.now }
-    ensures low { from ≤ result }
+    ensures forward { from ≤ result }
     ensures within { result ≤ length bytes.now }
     ensures blanks { AreLineBlanks bytes.now from result }
     ensures ends { result < length bytes.now → ¬ IsLineBlank (slice_index bytes.now result) }

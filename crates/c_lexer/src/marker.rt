@@ -139,7 +139,7 @@ fn file_part<'b>(text: SourceText<'b>, from: usize) -> Option<FoundFile<'b>>
 /// Where the flags from `from` on end.
 fn flags_end(bytes: &[u8], from: usize) -> usize
     requires inside { from ≤ length bytes.now }
-    ensures low { from ≤ result }
+    ensures forward { from ≤ result }
     ensures within { result ≤ length bytes.now }
     ensures flags { AreFlags bytes.now from result }
     ensures ends { ¬ BeginsFlag bytes.now result }

@@ -8,8 +8,8 @@ use crate::byte_class::is_word_byte;
 /// Where the run of letters, digits and `_` from `from` on ends.
 pub(crate) fn word_end(bytes: &[u8], from: usize) -> usize
     requires { from ≤ length bytes.now }
-    ensures low { from ≤ result }
-    ensures high { result ≤ length bytes.now }
+    ensures forward { from ≤ result }
+    ensures within { result ≤ length bytes.now }
     ensures each { (i : ℕ) → from ≤ i → i < result → IsWordByte (slice_index bytes.now i) }
     ensures ends { result < length bytes.now → ¬ IsWordByte (slice_index bytes.now result) }
 {

@@ -24,7 +24,7 @@ pub trait Files {
         ensures ok { OnOk result (Opens (state self.old) (state self.new) name.now) }
         ensures failed { OnErr result (RoseOrLacks (state self.old) (state self.new) name.now) }
         ensures err { OnErr result ((state self.new).is_open ≡ false) }
-        ensures lacks { Lacks (state self.old).held name.now →
+        ensures refuses { Lacks (state self.old).held name.now →
             IsErr result × ((state self.new).faults ≡ (state self.old).faults) };
 
     /// Reads the next bytes of the open file to the front of `into`, and returns how many.

@@ -48,7 +48,7 @@ pub fn read_all<F: Files>(
         RoseOrLacks (F.state files.old) (F.state files.new) name.now }
     ensures too_large { IsErrOf result ReadStop.TooLarge →
         HoldsLargerFile (F.state files.old) name.now limit }
-    ensures lacks { Lacks (F.state files.old).held name.now →
+    ensures refuses { Lacks (F.state files.old).held name.now →
         IsErrOf result ReadStop.Failed
         × ((F.state files.new).faults ≡ (F.state files.old).faults) }
 {

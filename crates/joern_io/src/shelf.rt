@@ -142,7 +142,7 @@ impl Files for Shelf {
         // The count of faults.
         ensures never_falls { self.old.faults ≤ self.new.faults }
         ensures ok_faults { OnOk result (self.new.faults ≡ self.old.faults) }
-        ensures lacks { file_of self.old.files name.now ≡ None →
+        ensures refuses { file_of self.old.files name.now ≡ None →
             self.new.faults ≡ self.old.faults }
         ensures failed_faults { IsSome (file_of self.old.files name.now) →
             OnErr result (self.new.faults ≡ next_count self.old.faults) }

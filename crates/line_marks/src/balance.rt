@@ -64,7 +64,7 @@ fn group_end(tokens: &[Token], at: usize, end: usize) -> Option<usize>
     requires few { length tokens.now < 2 ^ 32 }
     requires inside { IsBalancedTo tokens.now (at + 1) end }
     ensures group { Finds (IsGroup tokens.now at) result }
-    ensures past { IfSome result (λ to. (to ≡ end + 1) × (to ≤ length tokens.now)) }
+    ensures within { IfSome result (λ to. (to ≡ end + 1) × (to ≤ length tokens.now)) }
 {
     let opening = mark_at(tokens, at)?;
     let closing = mark_at(tokens, end)?;
@@ -116,7 +116,7 @@ pub(crate) fn group_from(tokens: &[Token], ends: &[u32], at: usize) -> Option<us
     requires inside { at < length tokens.now }
     requires ends { AreBalancedTo tokens.now ends.now }
     ensures group { Finds (IsGroup tokens.now at) result }
-    ensures past { IfSome result (λ to. (at < to) × (to ≤ length tokens.now)) }
+    ensures within { IfSome result (λ to. (at < to) × (to ≤ length tokens.now)) }
 {
     group_end(tokens, at, ends[at + 1] as usize)
 }

@@ -52,7 +52,7 @@ fn parens_end(tokens: &[Token], ends: &[u32], from: usize) -> Option<usize>
     requires few { length tokens.now < 2 ^ 32 }
     requires ends { AreBalancedTo tokens.now ends.now }
     ensures parens { Finds (AreParens tokens.now from) result }
-    ensures past { IfSome result (λ to. (from < to) × (to ≤ length tokens.now)) }
+    ensures within { IfSome result (λ to. (from < to) × (to ≤ length tokens.now)) }
 {
     let mut at = from;
     while let Some(kind) = kind_at(tokens, at) {

@@ -9,7 +9,7 @@ returns-in-Some-group_end c =
     let tokens = c.args.tokens.now in
     let inner : IsBalancedTo tokens (c.args.at + 1) (slice_index c.args.ends.now (c.args.at + 1)) = c.requires.later (c.args.at + 1) (omega arith) (omega arith) in
     let low = inner.low in
-    let past = c.in-Some-group_end.ensures.past in
+    let past = c.in-Some-group_end.ensures.within in
     balanced_group tokens c.args.at _ c.in-Some-group_end.past _ inner past.0 c.in-Some-group_end.ensures.group
     (c.requires.later c.in-Some-group_end.past (omega (arith, past.0)) past.1)
 

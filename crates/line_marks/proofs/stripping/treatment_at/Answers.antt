@@ -20,9 +20,9 @@ returns-then-is_absent c =
 pub returns-in-Some : goal.returns-in-Some
 returns-in-Some c =
     let h = c.in-Some.ensures in
-    (omega (arith, h.past.0), h.past.1, kept.IsDropped.attribute (cc (c.requires.token, c.in-Key-eq57.is, c.in-Key-eq57.field-0-is)) h.parens)
+    (omega (arith, h.within.0), h.within.1, kept.IsDropped.attribute (cc (c.requires.token, c.in-Key-eq57.is, c.in-Key-eq57.field-0-is)) h.parens)
 
 pub returns-in-Some-parens_end : goal.returns-in-Some-parens_end
 returns-in-Some-parens_end c =
     let h = c.in-Some-parens_end.ensures in
-    (omega (arith, h.past.0), h.past.1, kept.IsDropped.symbol (cc (c.requires.token, c.in-Key-eq59.is, c.in-Key-eq59.field-0-is)) (c.may_end_declarator.ensures.0 c.if-may_end_declarator.true) h.parens)
+    (omega (arith, h.within.0), h.within.1, kept.IsDropped.symbol (cc (c.requires.token, c.in-Key-eq59.is, c.in-Key-eq59.field-0-is)) (c.may_end_declarator.ensures.0 c.if-may_end_declarator.true) h.parens)
