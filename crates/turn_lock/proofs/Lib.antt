@@ -7,3 +7,4 @@ mod Ends
 mod Steps
 mod Seats
 mod Waiting
+mod Rolls

@@ -47,3 +47,9 @@ module _ {T N E : Type 0} where
     pub ticket : (ticket : ℕ) × (view.ticket ≡ Some ticket)
     pub held : view.held ≡ Some value
     pub seen : view.seen ≡ history value
+
+  -- The seat is of this lock and free, and has so many shares.
+  pub record IsSeated (turn : Turn T N E) (shares : ℕ) (seat : Seat T N E) : Type 0 where
+    pub turn_is : IsOf turn seat
+    pub free : IsFree seat
+    pub shares_are : shares_of seat ≡ shares

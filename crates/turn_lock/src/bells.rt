@@ -11,14 +11,21 @@ use std::sync::atomic::{AtomicU64, Ordering};
 /// that up to so many sleep each at one of their own.
 const BELLS: u64 = 64;
 
-/// How often a thread looks before it sleeps.
+/// How often a thread that is the next looks before it sleeps.
 const LOOKS: u32 = 64;
 
-/// Each counts how often it was rung.
+/// Each bell counts how often it was rung.
 #[derive(Drop)]
 pub(crate) struct Bells {
     bells: Vec<AtomicU64>,
     ghost all: { vec_len bells ≡ BELLS },
+}
+
+/// How often the bell of a ticket was rung.
+#[derive(Clone, Copy)]
+pub(crate) struct Heard {
+    ticket: u64,
+    rung: u64,
 }
 
 impl Bells {
@@ -34,10 +41,11 @@ impl Bells {
         &self.bells[(ticket % BELLS) as usize]
     }
 
-    /// How often the bell of this ticket was rung. It is read before the look, so that a turn that
-    /// comes after the look is not slept through.
-    pub(crate) fn rung(&self, ticket: u64) -> u64 {
-        self.bell_of(ticket).load(Ordering::SeqCst)
+    /// How often the bell of this ticket was rung. A thread asks before it looks, so that it does not
+    /// sleep through a turn that comes after the look.
+    pub(crate) fn listen(&self, ticket: u64) -> Heard {
+        let rung = self.bell_of(ticket).load(Ordering::SeqCst);
+        Heard { ticket, rung }
     }
 
     /// Wakes those who sleep at the bell of this ticket.
@@ -47,12 +55,15 @@ impl Bells {
         bell.wake_all();
     }
 
-    /// Waits a moment, or, after some looks, until the bell is rung again.
-    pub(crate) fn pause<R: Wait>(&self, rt: &R, ticket: u64, rung: u64, looks: u32) {
-        if looks < LOOKS {
+    /// Sleeps until the bell is rung again. The next in the line of tickets first looks some times, for
+    /// its turn may come sooner than a sleep would end.
+    pub(crate) fn pause<R: Wait>(&self, rt: &R, heard: Heard, served: u64, looks: u32) {
+        let ahead = heard.ticket.wrapping_sub(served);
+        if ahead == 1 && looks < LOOKS {
             std::hint::spin_loop();
         } else {
-            self.bell_of(ticket).park(rt, (rung % (1 << 32)) as u32);
+            self.bell_of(heard.ticket)
+                .park(rt, (heard.rung % (1 << 32)) as u32);
         }
     }
 }

@@ -5,8 +5,12 @@
 mod bells;
 mod held;
 mod kept;
+#[cfg(test)]
+mod roll;
 mod rule;
 mod seat;
+#[cfg(test)]
+mod tests;
 mod turn;
 mod view;
 

@@ -101,14 +101,14 @@ impl<T: Kept> Turn<T> {
         let ticket = shared.fetch_add::<Draw>(&mut seat.inner, DRAWN, 1);
         let mut looks = 0;
         for _ in rt.forever() {
-            let rung = self.bells.rung(ticket);
+            let heard = self.bells.listen(ticket);
             let served = shared.load::<Look>(&mut seat.inner, SERVED);
             if served == ticket {
                 let value = shared.exchange(&mut seat.inner, 0, None).unwrap();
                 let taken = Snapshot::of(&value);
                 return Held { value, taken };
             }
-            self.bells.pause(rt, ticket, rung, looks);
+            self.bells.pause(rt, heard, served, looks);
             looks = looks.saturating_add(1);
         }
         unreachable!()
