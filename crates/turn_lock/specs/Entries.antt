@@ -58,8 +58,8 @@ module _ {E : Type 0} where
   abbrev pub AreApart : List (Placed E) → Type 0
   AreApart owns = (place : ℕ) → count_by (λ own. own.place == place) owns ≤ 1
 
-  -- The entries with their places are those of the history, each once, in some order: they weigh the
-  -- same, however an entry and its place are weighed.
+  -- The entries with their places are those of the history, each once, in some order: they weigh
+  -- the same, however an entry and its place are weighed.
   abbrev pub AreAll : List E → List (Placed E) → Type 0
   AreAll history owns =
       (weight : Placed E → ℕ) → sum_by weight owns ≡ sum_by weight (placed history)

@@ -20,6 +20,7 @@ module _ {T N : Type 0} where
     pub none : own seat ≡ []
 
   -- The seat has one share, and added this item, if it was written.
-  pub record IsDone (turn : Turn T N ℕ) (item : ℕ) (written : Bool) (seat : Seat T N ℕ) : Type 0 where
+  pub record IsDone (turn : Turn T N ℕ) (item : ℕ) (written : Bool) (seat : Seat T N ℕ) :
+      Type 0 where
     pub seated : IsSeated turn 1 seat
     pub wrote : IsTrue written → Adds (λ weight. weight item) seat

@@ -1,6 +1,6 @@
 -- The rule of the lock (ours): what holds of the two words, the slot and the views of all seats
--- between any two steps. Word 0 is how many tickets were drawn and word 1 the ticket that is served,
--- both modulo 2 ^ 64; the slot has the value.
+-- between any two steps. Word 0 is how many tickets were drawn and word 1 the ticket that is
+-- served, both modulo 2 ^ 64; the slot has the value.
 use Rattle.std.specs.Prelude.{
   ◌≡◌,
   ℕ,

@@ -44,8 +44,8 @@ module _ {T E : Type 0} where
       (ticket : ℕ) × (found ≡ ticket % 2 ^ 64)
       × (after ≡ (Some (record v { ticket = Some ticket }), before.1))
 
-  -- Offer: the seat will give away so many shares. It tells that what stands beside the seen history
-  -- is a beginning of it, and that the shares fit 32 bits.
+  -- Offer: the seat will give away so many shares. It tells that what stands beside the seen
+  -- history is a beginning of it, and that the shares fit 32 bits.
   abbrev pub Offers : Step (Option T) → Mine T E → ℕ → Mine T E → Type 0
   Offers step before found after = (v : View T E) → before.0 ≡ Some v →
       (after ≡ (Some (record v { offer = step.first }), before.1))

@@ -41,8 +41,8 @@ impl Bells {
         &self.bells[(ticket % BELLS) as usize]
     }
 
-    /// How often the bell of this ticket was rung. A thread asks before it looks, so that it does not
-    /// sleep through a turn that comes after the look.
+    /// How often the bell of this ticket was rung. A thread asks before it looks, so that it does
+    /// not sleep through a turn that comes after the look.
     pub(crate) fn listen(&self, ticket: u64) -> Heard {
         let rung = self.bell_of(ticket).load(Ordering::SeqCst);
         Heard { ticket, rung }
@@ -55,8 +55,8 @@ impl Bells {
         bell.wake_all();
     }
 
-    /// Sleeps until the bell is rung again. The next in the line of tickets first looks some times, for
-    /// its turn may come sooner than a sleep would end.
+    /// Sleeps until the bell is rung again. The next in the line of tickets first looks some times,
+    /// for its turn may come sooner than a sleep would end.
     pub(crate) fn pause<R: Wait>(&self, rt: &R, heard: Heard, served: u64, looks: u32) {
         let ahead = heard.ticket.wrapping_sub(served);
         if ahead == 1 && looks < LOOKS {

@@ -1,4 +1,5 @@
-//! That the calls return, with one worker and with many, and that one holder finds what another wrote.
+//! That the calls return, with one worker and with many, and that one holder finds what another
+//! wrote.
 
 use crate::roll::{Roll, written_by_all};
 use crate::{Kept, Turn};
