@@ -13,18 +13,18 @@ use std::alloc::{AllocError, Global};
 use std::snapshot::Snapshot;
 use std::sync::Wait;
 
-/// A lock round a value, which the holders of tickets take one after the other.
-pub struct Turn<T: Kept> {
-    pub(crate) table: Table<Option<T>, Option<View<T, T::Entry>>, Opening<T>, InTurn<T>, Global>,
-    bells: Bells,
-    pub ghost sized: { (table.shared.table_id.words ≡ 2) × (table.shared.table_id.slots ≡ 1) },
-}
-
 /// The word that counts the tickets that were drawn.
 const DRAWN: usize = 0;
 
 /// The word that has the ticket that is served.
 const SERVED: usize = 1;
+
+/// A lock round a value, which the holders of tickets take one after the other.
+pub struct Turn<T: Kept> {
+    table: Table<Option<T>, Option<View<T, T::Entry>>, Opening<T>, InTurn<T>, Global>,
+    bells: Bells,
+    ghost sized: { (table.shared.table_id.words ≡ 2) × (table.shared.table_id.slots ≡ 1) },
+}
 
 impl<T: Kept> Turn<T> {
     ghost use Rattle.std.specs.Prelude.{◌+◌, ◌-◌, ◌<◌, ◌≤◌, [], ◌++◌, IfOk};
