@@ -1,0 +1,7 @@
+pub mod Entries
+pub mod Held
+pub mod Views
+pub mod Seats
+pub mod Rule
+pub mod Steps
+pub mod Rolls
