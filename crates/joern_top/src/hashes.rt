@@ -88,11 +88,15 @@ impl NameDigest {
     /// The digest of the names of files and of the spellings of the kept tokens.
     fn of(alloc: Global, source: &Source) -> Result<NameDigest, AllocError> {
         let mut names = Names::of(alloc, source.bytes.items())?;
-        for name in source.places.files.items() {
-            names.add(name.items());
-        }
         let tokens = source.tokens.items();
-        for position in source.kept.items() {
+        let kept = source.kept.items();
+        // Without kept tokens there are no nodes that name the files of markers.
+        if !kept.is_empty() {
+            for name in source.places.files.items() {
+                names.add(name.items());
+            }
+        }
+        for position in kept {
             if let Some(token) = tokens.get(*position as usize) {
                 names.add_token(token);
             }
