@@ -1,0 +1,187 @@
+-- Ways that are added one after another.
+use Rattle.std.proofs.Common.{◌≡◌, ℕ, ◌+◌, ◌<◌, ◌≤◌, inl, inr, List, [], ◌∷◌, ◌++◌, length, get_or, min, refl, sym, ap, ◌∙◌, arith, subst, append_assoc, Option, Some, None}
+use Rattle.std.specs.List.{All, Contains}
+use Rattle.std.proofs.lemmas.Bool.{cases_lt}
+use Rattle.std.proofs.lemmas.List.{append-nil, length-map, get_or-map, get_or_default}
+use Rattle.std.proofs.lemmas.List.Elements.{All-nil, All-append, All-weaker, All-cons, All-contains, Contains-append_left, Contains-get_or}
+use Rattle.matched_paths.specs.declared.flow_graph.Crossing.{Crossing}
+use Rattle.matched_paths.specs.declared.flow_graph.FlowGraph.{FlowGraph}
+use Rattle.matched_paths.specs.declared.flow_graph.Pair.{Pair}
+use Rattle.matched_paths.specs.Edges.{IsAmong, IsWithin}
+use Rattle.flow_index.specs.Places.{IsLastPlace, Keys}
+use Rattle.flow_index.specs.Crossings.{AreGoalPlaces, AreCallPlaces}
+use Rattle.flow_index.specs.Ways.{AddsAll, Bridges, BridgesOver, Returns}
+use Rattle.flow_index.proofs.Walking.{Walks, walk_begin, walk_step, walk_end}
+
+-- Ways that are so were added.
+pub record Adds (IsSo : ℕ × ℕ → Type 0) (before after : List (ℕ × ℕ)) : Type 0 where
+  pub more : List (ℕ × ℕ)
+  pub kept : after ≡ before ++ more
+  pub new : All IsSo more
+
+pub adds_none : (IsSo : ℕ × ℕ → Type 0) (ways : List (ℕ × ℕ)) → Adds IsSo ways ways
+adds_none IsSo ways = record { more = []; kept = sym (append-nil ways); new = All-nil IsSo }
+
+pub adds_then : (IsSo : ℕ × ℕ → Type 0) (a b c : List (ℕ × ℕ)) → Adds IsSo a b → Adds IsSo b c → Adds IsSo a c
+adds_then IsSo a b c front back = record {
+  more = front.more ++ back.more;
+  kept = back.kept ∙ (ap (λ xs. xs ++ back.more) front.kept ∙ append_assoc a front.more back.more);
+  new = All-append IsSo front.more back.more front.new back.new;
+}
+
+pub adds_one : (IsSo : ℕ × ℕ → Type 0) (ways : List (ℕ × ℕ)) (way : ℕ × ℕ) → IsSo way → Adds IsSo ways (ways ++ way ∷ [])
+adds_one IsSo ways way so = record { more = way ∷ []; kept = refl; new = All-cons IsSo way [] so (All-nil IsSo) }
+
+pub adds_keeps : (IsSo : ℕ × ℕ → Type 0) (a b : List (ℕ × ℕ)) (way : ℕ × ℕ) → Adds IsSo a b → Contains a way → Contains b way
+adds_keeps IsSo a b way adds has = subst (λ (xs : List (ℕ × ℕ)). Contains xs way) (sym adds.kept) (Contains-append_left a adds.more way has)
+
+pub adds_from_all : (P Q : ℕ × ℕ → Type 0) (a b : List (ℕ × ℕ)) → ((way : ℕ × ℕ) → P way → Q way) → AddsAll P a b → Adds Q a b
+adds_from_all P Q a b same adds = record { more = adds.more; kept = adds.kept; new = All-weaker P Q same adds.more adds.new }
+
+-- a crossing to read where there is none
+abbrev pub no_crossing : Crossing
+no_crossing = record { call = 0; from = 0; to = 0 }
+
+module _ (flow : FlowGraph) (keys : Keys) (from call out : ℕ) where
+  -- the close at the place is of another call or out, or its way was added
+  abbrev pub IsReturned : List (ℕ × ℕ) → ℕ → Type 0
+  IsReturned ways place =
+      let close = get_or flow.closes place no_crossing in
+      close.call ≡ call → close.from ≡ out → Contains ways (from, close.to)
+
+  pub record Returning (start ways : List (ℕ × ℕ)) (next : Option ℕ) : Type 0 where
+    pub adds : Adds (Returns flow from call out) start ways
+    pub walks : Walks keys.keys (min call flow.vertices) next (IsReturned ways)
+
+  key_of : AreCallPlaces flow keys → (place : ℕ) → place < length flow.closes → (place < length keys.keys) × (get_or keys.keys place 0 ≡ min (get_or flow.closes place no_crossing).call flow.vertices)
+  key_of are place within = (
+    rw (are.calls, length-map) within,
+    ap (λ (xs : List ℕ). get_or xs place 0) are.calls ∙ get_or-map (λ (c : Crossing). min c.call flow.vertices) flow.closes place no_crossing 0 within,
+  )
+
+  pub return_begin : (start : List (ℕ × ℕ)) (found : Option ℕ) → IsLastPlace keys.keys (min call flow.vertices) (length keys.keys) found → Returning start start found
+  return_begin start found is = record { adds = adds_none _ start; walks = walk_begin keys.keys _ found _ is }
+
+  pub return_within : (start ways : List (ℕ × ℕ)) (at : ℕ) (next : Option ℕ) → AreCallPlaces flow keys → next ≡ Some at → Returning start ways next → at < length flow.closes
+  return_within start ways at next are some is =
+      let on = (subst (λ (n : Option ℕ). Walks keys.keys (min call flow.vertices) n (IsReturned ways)) some is.walks).on in
+      omega (arith, on.0, ap length are.calls, length-map flow.closes (λ (c : Crossing). min c.call flow.vertices))
+
+  pub return_step : (start ways after : List (ℕ × ℕ)) (at : ℕ) (next found : Option ℕ) → AreCallPlaces flow keys → next ≡ Some at → Returning start ways next → IsLastPlace keys.keys (get_or keys.keys at 0) at found →
+      Adds (Returns flow from call out) ways after → IsReturned after at → Returning start after found
+  return_step start ways after at next found are some is last adds here = record {
+    adds = adds_then _ start ways after is.adds adds;
+    walks = walk_step keys.keys _ at next found _ _ some is.walks last (λ place done same_call same_out. adds_keeps _ ways after _ adds (done same_call same_out)) here;
+  }
+
+  pub return_end : (start ways : List (ℕ × ℕ)) (next : Option ℕ) → AreCallPlaces flow keys → next ≡ None → Returning start ways next → AddsAll (Returns flow from call out) start ways
+  return_end start ways next are none is = record {
+    more = is.adds.more;
+    kept = is.adds.kept;
+    new = is.adds.new;
+    all = λ way returns.
+        let place = returns.closed.0 in
+        let close : get_or flow.closes place no_crossing ≡ record { call = call; from = out; to = way.1 } = get_or_default flow.closes place no_crossing _ returns.closed.1 ∙ returns.closed.2 in
+        let key = key_of are place returns.closed.1 in
+        let added = walk_end keys.keys _ next _ none is.walks place key.0 (key.1 ∙ ap (λ (c : Crossing). min c.call flow.vertices) close) (ap (λ (c : Crossing). c.call) close) (ap (λ (c : Crossing). c.from) close) in
+        let same : (from, (get_or flow.closes place no_crossing).to) ≡ way = ap (λ (x : ℕ). (x, (get_or flow.closes place no_crossing).to)) (sym returns.begins) ∙ ap (λ (c : Crossing). (way.0, c.to)) close in
+        subst (λ (w : ℕ × ℕ). Contains ways w) same added;
+  }
+
+module _ (flow : FlowGraph) (keys : Keys) (pair : Pair) where
+  -- the ways over the open at the place were added
+  abbrev pub IsSpanned : List (ℕ × ℕ) → ℕ → Type 0
+  IsSpanned ways place =
+      let entry = get_or flow.opens place no_crossing in
+      (way : ℕ × ℕ) → Returns flow entry.from entry.call pair.out way → Contains ways way
+
+  pub record Spanning (start ways : List (ℕ × ℕ)) (next : Option ℕ) : Type 0 where
+    pub adds : Adds (BridgesOver flow pair) start ways
+    pub walks : Walks keys.keys pair.goal next (IsSpanned ways)
+
+  goal_of : AreGoalPlaces flow keys → (place : ℕ) → place < length flow.opens → (place < length keys.keys) × (get_or keys.keys place 0 ≡ (get_or flow.opens place no_crossing).to)
+  goal_of are place within = (
+    rw (are.goals, length-map) within,
+    ap (λ (xs : List ℕ). get_or xs place 0) are.goals ∙ get_or-map (λ (c : Crossing). c.to) flow.opens place no_crossing 0 within,
+  )
+
+  pub span_begin : (start : List (ℕ × ℕ)) (found : Option ℕ) → IsLastPlace keys.keys pair.goal (length keys.keys) found → Spanning start start found
+  span_begin start found is = record { adds = adds_none _ start; walks = walk_begin keys.keys _ found _ is }
+
+  -- the ways over an open to the goal are bridges over the pair
+  span_over : AreGoalPlaces flow keys → (at : ℕ) → at < length keys.keys → get_or keys.keys at 0 ≡ pair.goal → (way : ℕ × ℕ) →
+      Returns flow (get_or flow.opens at no_crossing).from (get_or flow.opens at no_crossing).call pair.out way → BridgesOver flow pair way
+  span_over are at inside key way returns =
+      let within : at < length flow.opens = omega (arith, inside, ap length are.goals, length-map flow.opens (λ (c : Crossing). c.to)) in
+      let entry = get_or flow.opens at no_crossing in
+      let to : entry.to ≡ pair.goal = sym (goal_of are at within).1 ∙ key in
+      let stands : Contains flow.opens entry = Contains-get_or flow.opens at no_crossing within in
+      record {
+        call = entry.call;
+        opened = subst (λ (f : ℕ). Contains flow.opens (record { call = entry.call; from = f; to = pair.goal })) (sym returns.begins)
+            (subst (λ (t : ℕ). Contains flow.opens (record { call = entry.call; from = entry.from; to = t })) to stands);
+        closed = returns.closed;
+      }
+
+  pub span_step : (start ways after : List (ℕ × ℕ)) (at : ℕ) (d : Crossing) (next found : Option ℕ) → AreGoalPlaces flow keys → next ≡ Some at → Spanning start ways next → IsLastPlace keys.keys (get_or keys.keys at 0) at found →
+      AddsAll (Returns flow (get_or flow.opens at no_crossing).from (get_or flow.opens at no_crossing).call pair.out) ways after → Spanning start after found
+  span_step start ways after at d next found are some is last added =
+      let on = (subst (λ (n : Option ℕ). Walks keys.keys pair.goal n (IsSpanned ways)) some is.walks).on in
+      let adds = adds_from_all _ (BridgesOver flow pair) ways after (span_over are at on.0 on.1) added in
+      record {
+        adds = adds_then _ start ways after is.adds adds;
+        walks = walk_step keys.keys _ at next found _ _ some is.walks last (λ place done way returns. adds_keeps _ ways after way adds (done way returns)) added.all;
+      }
+
+  pub span_end : (start ways : List (ℕ × ℕ)) (next : Option ℕ) → AreGoalPlaces flow keys → next ≡ None → Spanning start ways next → AddsAll (BridgesOver flow pair) start ways
+  span_end start ways next are none is = record {
+    more = is.adds.more;
+    kept = is.adds.kept;
+    new = is.adds.new;
+    all = λ way over.
+        let place = over.opened.0 in
+        let entry : get_or flow.opens place no_crossing ≡ record { call = over.call; from = way.0; to = pair.goal } = get_or_default flow.opens place no_crossing _ over.opened.1 ∙ over.opened.2 in
+        let key = goal_of are place over.opened.1 in
+        walk_end keys.keys _ next _ none is.walks place key.0 (key.1 ∙ ap (λ (c : Crossing). c.to) entry) way
+        (subst (λ (c : Crossing). Returns flow c.from c.call pair.out way) (sym entry) (record { begins = refl; closed = over.closed }));
+  }
+
+-- Ways over the first pairs were added.
+pub record Bridging (flow : FlowGraph) (pairs : List Pair) (ways : List (ℕ × ℕ)) (index : ℕ) : Type 0 where
+  pub sound : All (λ way. Bridges flow pairs way.0 way.1) ways
+  pub all : (k : ℕ) (d : Pair) → k < index → k < length pairs → (way : ℕ × ℕ) → BridgesOver flow (get_or pairs k d) way → Contains ways way
+
+pub bridging_none : (flow : FlowGraph) (pairs : List Pair) (ways : List (ℕ × ℕ)) → ways ≡ [] → Bridging flow pairs ways 0
+bridging_none flow pairs ways empty = record {
+  sound = subst (λ (xs : List (ℕ × ℕ)). All (λ way. Bridges flow pairs way.0 way.1) xs) (sym empty) (All-nil _);
+  all = λ k d less within way over. absurd (omega arith);
+}
+
+pub bridging_more : (flow : FlowGraph) (pairs : List Pair) (ways after : List (ℕ × ℕ)) (index : ℕ) (d : Pair) → index < length pairs → Bridging flow pairs ways index →
+    AddsAll (BridgesOver flow (get_or pairs index d)) ways after → Bridging flow pairs after (index + 1)
+bridging_more flow pairs ways after index d within is added = record {
+  sound = subst (λ (xs : List (ℕ × ℕ)). All (λ way. Bridges flow pairs way.0 way.1) xs) (sym added.kept)
+      (All-append (λ (way : ℕ × ℕ). Bridges flow pairs way.0 way.1) ways added.more is.sound (All-weaker (BridgesOver flow (get_or pairs index d)) (λ way. Bridges flow pairs way.0 way.1) (λ way over. record { pair = get_or pairs index d; stands = Contains-get_or pairs index d within; over = over }) added.more added.new));
+  all = λ k e less inside way over. elim (cases_lt k index) [
+    | inl before ↦ adds_keeps _ ways after way (adds_from_all (BridgesOver flow (get_or pairs index d)) (BridgesOver flow (get_or pairs index d)) ways after (λ w o. o) added) (is.all k e before inside way over)
+    | inr not_before ↦
+        let here : k ≡ index = omega arith in
+        added.all way (subst (λ (p : Pair). BridgesOver flow p way) (get_or_default pairs k e d inside ∙ ap (λ (i : ℕ). get_or pairs i d) here) over)
+  ];
+}
+
+-- a pair whose goal is no vertex has no bridges
+pub bridging_skip : (flow : FlowGraph) (pairs : List Pair) (ways : List (ℕ × ℕ)) (index : ℕ) (d : Pair) → index < length pairs → IsWithin flow → flow.vertices ≤ (get_or pairs index d).goal → Bridging flow pairs ways index → Bridging flow pairs ways (index + 1)
+bridging_skip flow pairs ways index d inside within beyond is = bridging_more flow pairs ways ways index d inside is (record {
+  more = [];
+  kept = sym (append-nil ways);
+  new = All-nil (BridgesOver flow (get_or pairs index d));
+  all = λ way over. let below = (All-contains (IsAmong flow.vertices) flow.opens _ within.opens over.opened).to in absurd (omega arith);
+})
+
+pub bridging_end : (flow : FlowGraph) (pairs : List Pair) (ways : List (ℕ × ℕ)) (index : ℕ) → length pairs ≤ index → Bridging flow pairs ways index → (a b : ℕ) →
+    (Contains ways (a, b) → Bridges flow pairs a b) × (Bridges flow pairs a b → Contains ways (a, b))
+bridging_end flow pairs ways index all is a b = (
+  λ has. All-contains (λ way. Bridges flow pairs way.0 way.1) ways (a, b) is.sound has,
+  λ bridges. is.all bridges.stands.0 bridges.pair (omega (arith, bridges.stands.1)) bridges.stands.1 (a, b) (subst (λ (p : Pair). BridgesOver flow p (a, b)) (sym bridges.stands.2) bridges.over),
+)

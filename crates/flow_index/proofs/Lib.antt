@@ -1,0 +1,9 @@
+pub mod Chaining
+pub mod Marking
+pub mod Growing
+pub mod Walking
+pub mod Following
+pub mod Searching
+pub mod Adding
+pub mod CrossingLemmas
+pub mod Steps

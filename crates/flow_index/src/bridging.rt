@@ -1,0 +1,109 @@
+//! The bridges over a list of pairs.
+
+ghost use Rattle.std.specs.Prelude.{ℕ, ◌≡◌, ◌<◌, ◌↔◌, IfOk, IsTrue, OnOk};
+ghost use Rattle.std.specs.List.{Contains};
+ghost use Rattle.matched_paths.specs.Edges.{IsWithin};
+ghost use Rattle.flow_index.specs.Ways.{AddsAll, AreAmong, AreSteps, Bridges, BridgesOver, Returns};
+ghost use Rattle.flow_index.specs.Crossings.{AreCallPlaces, AreGoalPlaces};
+
+use crate::chains::Chains;
+use matched_paths::{Crossing, FlowGraph, Pair};
+use std::alloc::{AllocError, Global};
+
+/// Whether the close is of this call and leaves this out.
+fn closes(close: &Crossing, call: u32, out: u32) -> bool
+    ensures { IsTrue result ↔ ((close.now.call ≡ call) × (close.now.from ≡ out)) }
+{
+    close.call == call && close.from == out
+}
+
+/// Adds the ways from a vertex to where the call closes the out.
+fn add_returns(
+    flow: &FlowGraph,
+    by_call: &Chains,
+    from: u32,
+    call: u32,
+    out: u32,
+    ways: &mut Vec<(u32, u32)>,
+) -> Result<(), AllocError>
+    requires { AreCallPlaces flow.now by_call.now }
+    ensures { OnOk result (AddsAll (Returns flow.now from call out) ways.old.items ways.new.items) }
+{
+    let mut next = by_call.last(call.min(flow.vertices));
+    while let Some(place) = next {
+        let close = &flow.closes.items()[place as usize];
+        if closes(close, call, out) {
+            ways.push((from, close.to))?;
+        }
+        next = by_call.before(place);
+    }
+    Ok(())
+}
+
+/// Adds the bridges over a pair.
+fn add_bridges(
+    flow: &FlowGraph,
+    by_goal: &Chains,
+    by_call: &Chains,
+    pair: Pair,
+    ways: &mut Vec<(u32, u32)>,
+) -> Result<(), AllocError>
+    requires goal { pair.goal < by_goal.now.count }
+    requires goals { AreGoalPlaces flow.now by_goal.now }
+    requires calls { AreCallPlaces flow.now by_call.now }
+    ensures { OnOk result (AddsAll (BridgesOver flow.now pair) ways.old.items ways.new.items) }
+{
+    let mut next = by_goal.last(pair.goal);
+    while let Some(place) = next {
+        let entry = &flow.opens.items()[place as usize];
+        add_returns(flow, by_call, entry.from, entry.call, pair.out, ways)?;
+        next = by_goal.before(place);
+    }
+    Ok(())
+}
+
+/// The bridges over these pairs: ways from where a call opens a pair's goal to where it closes the
+/// pair's out. It takes time linear in the opens to the goals of the pairs, each with the closes of
+/// its call.
+fn bridges(alloc: Global, flow: &FlowGraph, pairs: &[Pair]) -> Result<Vec<(u32, u32)>, AllocError>
+    requires { IsWithin flow.now }
+    ensures { IfOk result (λ ways. (a b : ℕ) →
+        Contains ways.items (a, b) ↔ Bridges flow.now pairs.now a b) }
+{
+    let goals: Vec<u32> = flow
+        .opens
+        .items()
+        .iter()
+        .map(|entry| entry.to)
+        .collect(alloc)?;
+    let by_goal = Chains::of(alloc, flow.vertices as usize, &goals)?;
+    let calls: Vec<u32> = flow
+        .closes
+        .items()
+        .iter()
+        .map(|close| close.call.min(flow.vertices))
+        .collect(alloc)?;
+    let by_call = Chains::of(alloc, flow.vertices as usize + 1, &calls)?;
+    let mut ways = Vec::new(alloc);
+    for pair in pairs {
+        if pair.goal < flow.vertices {
+            add_bridges(flow, &by_goal, &by_call, *pair, &mut ways)?;
+        }
+    }
+    Ok(ways)
+}
+
+/// The steps of folded paths over these pairs, as ways: flat edges and bridges.
+pub fn folded_ways(
+    alloc: Global,
+    flow: &FlowGraph,
+    pairs: &[Pair],
+) -> Result<Vec<(u32, u32)>, AllocError>
+    requires { IsWithin flow.now }
+    ensures steps { IfOk result (λ ways. AreSteps flow.now pairs.now ways.items) }
+    ensures within { IfOk result (λ ways. AreAmong flow.now.vertices ways.items) }
+{
+    let mut ways = bridges(alloc, flow, pairs)?;
+    ways.extend_from_slice(flow.flat.items())?;
+    Ok(ways)
+}

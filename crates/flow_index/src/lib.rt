@@ -1,0 +1,15 @@
+//! A flow graph's edges by their ends, and which vertices a set of edges leads to: flat arrays, and
+//! time linear in edges and vertices.
+#![tactic(auto)]
+
+mod bridging;
+mod chains;
+mod crossing_ways;
+mod reaching;
+mod vertex_set;
+
+pub use bridging::folded_ways;
+pub use chains::Chains;
+pub use crossing_ways::ways_of;
+pub use reaching::reached;
+pub use vertex_set::VertexSet;

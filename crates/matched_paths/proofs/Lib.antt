@@ -1,0 +1,4 @@
+pub mod PathLemmas
+pub mod Folding
+pub mod Closing
+pub mod Needing

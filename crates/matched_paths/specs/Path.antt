@@ -1,0 +1,13 @@
+-- Paths: steps one after another.
+use Rattle.std.specs.Prelude.{ℕ}
+
+-- Steps of this kind lead from a to b, none or more.
+pub data Path (Step : ℕ → ℕ → Type 0) : ℕ → ℕ → Type 0 where
+  none : {a : ℕ} → Path Step a a
+  step : {a b c : ℕ} → Step a b → Path Step b c → Path Step a c
+
+-- Each step of the path is so.
+abbrev pub EachStep : {Step : ℕ → ℕ → Type 0} → ((a b : ℕ) → Step a b → Type 0) → {a b : ℕ} →
+    Path Step a b → Type 0
+EachStep IsSo none = Unit {0}
+EachStep IsSo (step {a} {b} first rest) = IsSo a b first × EachStep IsSo rest

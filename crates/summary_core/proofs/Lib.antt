@@ -1,0 +1,11 @@
+pub mod Lists
+pub mod Kept
+pub mod Quiet
+pub mod Gathering
+pub mod Finding
+pub mod Wanting
+pub mod Changing
+pub mod Claiming
+pub mod Publishing
+pub mod Rising
+pub mod Finishing

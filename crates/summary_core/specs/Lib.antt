@@ -1,0 +1,7 @@
+-- What contracts of this crate say, in the order of reading.
+pub mod Searches
+pub mod Board
+pub mod Events
+pub mod Claiming
+pub mod Sound
+pub mod Table

@@ -1,0 +1,199 @@
+//! The board of summaries.
+
+ghost use Rattle.std.specs.Prelude.{◌≡◌, ◌<◌, ◌≤◌, ◌↔◌, ◌++◌, false, true, length, take};
+ghost use Rattle.std.specs.Prelude.{IfOk, IsTrue, List, MatchOption, OnErr, OnOk};
+ghost use Rattle.std.specs.List.{All, Contains};
+ghost use Rattle.matched_paths.specs.declared.flow_graph.Pair.{Pair as PairValue};
+ghost use Rattle.matched_paths.specs.Edges.{IsWithin};
+ghost use Rattle.summary_core.specs.Searches.{IsFoundOf};
+ghost use Rattle.summary_core.specs.Board.{IsClaimable, IsOpening};
+ghost use Rattle.summary_core.specs.Events.{Abandons, Claims, FindsNone, Flies, Publishes};
+ghost use Rattle.summary_core.specs.Sound.{IsQuiet, IsSound};
+ghost use Rattle.summary_core.specs.Table.{IsClosed};
+
+use crate::claims::{add_pairs, first_claimable, place_of};
+use crate::closed::Closed;
+use crate::found::{Found, Goal};
+use crate::mirror::Mirror;
+use crate::search::outs;
+use crate::task::{Stamp, Task};
+use crate::wanted::wanted_tasks;
+use joern_io::List as ListOf;
+use matched_paths::{FlowGraph, Pair};
+use std::alloc::{AllocError, Global};
+use std::marker::Model;
+use std::sync::Arc;
+
+/// The pairs that were published, and what is known of each wanted goal.
+///
+/// Contracts see a board as the definitions have it: its flow graph and starts, the history of
+/// pairs and the tasks of the wanted goals. A board is sound.
+#[derive(Drop)]
+pub struct Board {
+    flow: Arc<FlowGraph>,
+    starts: ListOf<u32>,
+    history: Vec<Pair>,
+    tasks: Vec<Task>,
+}
+
+impl Model for Board {
+    ghost use Rattle.summary_core.specs.Board.{BoardState};
+    ghost use Rattle.summary_core.specs.Sound.{IsKeptBoard};
+
+    ghost Value = { BoardState };
+
+    ghost view = { λ board. record {
+      flow = board.flow.value;
+      starts = board.starts;
+      history = board.history.items;
+      tasks = board.tasks.items;
+    } };
+
+    ghost invariant = { λ board. IsKeptBoard (record {
+      flow = board.flow.value;
+      starts = board.starts;
+      history = board.history.items;
+      tasks = board.tasks.items;
+    }) };
+}
+
+impl Board {
+    /// A board without pairs, on which every wanted goal is dirty and none flies.
+    pub fn new(
+        alloc: Global,
+        flow: Arc<FlowGraph>,
+        starts: ListOf<u32>,
+    ) -> Result<Board, AllocError>
+        requires within { IsWithin flow.value }
+        requires starts { All (λ start. start < flow.value.vertices) starts }
+        ensures { IfOk result (IsOpening flow.value starts) }
+    {
+        let tasks = wanted_tasks(alloc, &flow, starts.items())?;
+        Ok(Board {
+            flow,
+            starts,
+            history: Vec::new(alloc),
+            tasks,
+        })
+    }
+
+    /// Whether the goal is in flight. It takes no memory.
+    pub fn in_flight(&self, goal: Goal) -> bool
+        ensures { IsTrue result ↔ Flies self.now goal.vertex }
+    {
+        match place_of(&self.tasks, goal.vertex) {
+            Some(place) => self.tasks[place].flies,
+            None => false,
+        }
+    }
+
+    /// Makes the mirror the whole history.
+    pub fn copy_tail(&self, mirror: &mut Mirror) -> Result<(), AllocError>
+        requires { mirror.old ≡ take (length mirror.old) self.now.history }
+        ensures ok { OnOk result (mirror.new ≡ self.now.history) }
+        ensures err { OnErr result (mirror.new ≡ mirror.old) }
+        ensures sound { IsSound self.now }
+    {
+        let from = mirror.pairs.len();
+        mirror.pairs.extend_from_slice(&self.history[from..])
+    }
+
+    /// Claims the least goal that is dirty and in no flight, for a search over the mirror; None
+    /// where there is none. It takes no memory.
+    pub fn claim(&mut self, mirror: &Mirror) -> Option<Goal>
+        requires { mirror.now ≡ self.old.history }
+        ensures { MatchOption result (FindsNone self.old self.new)
+            (λ goal. Claims self.old goal.vertex self.new) }
+    {
+        let _ = mirror;
+        let place = match first_claimable(&self.history, &self.tasks) {
+            Some(place) => place,
+            None => return None,
+        };
+        let task = &mut self.tasks[place];
+        task.flies = true;
+        Some(Goal { vertex: task.goal })
+    }
+
+    /// Publishes what was found from a goal in flight, and ends its flight.
+    ///
+    /// Where memory is wanting the flight goes on.
+    pub fn publish(&mut self, goal: Goal, found: Found) -> Result<(), AllocError>
+        requires flies { Flies self.old goal.vertex }
+        requires seen { found.seen ≤ length self.old.history }
+        requires found { IsFoundOf self.old.flow (take found.seen self.old.history)
+            goal.vertex found }
+        ensures ok { OnOk result (Publishes self.old goal.vertex found self.new) }
+        ensures err { OnErr result (self.new ≡ self.old) }
+    {
+        let Some(place) = place_of(&self.tasks, goal.vertex) else {
+            unreachable!()
+        };
+        let Found { outs, asked, seen } = found;
+        add_pairs(&mut self.history, goal.vertex, outs.items())?;
+        let task = &mut self.tasks[place];
+        task.stamp = Some(Stamp { seen, asked });
+        task.flies = false;
+        Ok(())
+    }
+
+    /// Ends the flight of a goal. It takes no memory.
+    pub fn abandon(&mut self, goal: Goal)
+        requires { Flies self.old goal.vertex }
+        ensures { Abandons self.old goal.vertex self.new }
+    {
+        let Some(place) = place_of(&self.tasks, goal.vertex) else {
+            unreachable!()
+        };
+        self.tasks[place].flies = false;
+    }
+
+    /// The closed table: goes on until no goal is dirty.
+    pub fn finish(self, alloc: Global) -> Result<Closed, AllocError>
+        requires { All (λ task. task.flies ≡ false) self.tasks }
+        ensures flow { IfOk result (λ closed. closed.flow ≡ self.flow) }
+        ensures starts { IfOk result (λ closed. closed.starts ≡ self.starts) }
+        ensures closed { IfOk result IsClosed }
+    {
+        let mut board = self;
+        let mut mirror = Mirror::new(alloc);
+        for _ in 0..u64::MAX {
+            board.copy_tail(&mut mirror)?;
+            let Some(goal) = board.claim(&mirror) else {
+                return Ok(board.close());
+            };
+            let found = board.search(alloc, &mirror, goal)?;
+            board.publish(goal, found)?;
+        }
+        Err(AllocError) // No history has so many pairs.
+    }
+
+    /// What is found from a goal in flight over the mirror.
+    fn search(&self, alloc: Global, mirror: &Mirror, goal: Goal) -> Result<Found, AllocError>
+        requires { Flies self.now goal.vertex }
+        ensures { IfOk result (IsFoundOf self.now.flow mirror.now goal.vertex) }
+    {
+        outs(alloc, &self.flow, mirror, goal)
+    }
+
+    /// The table of a board on which nothing is left to do.
+    fn close(self) -> Closed
+        requires { IsQuiet self }
+        ensures flow { result.flow ≡ self.flow }
+        ensures starts { result.starts ≡ self.starts }
+        ensures closed { IsClosed result }
+    {
+        let Board {
+            flow,
+            starts,
+            mut history,
+            tasks: _,
+        } = self;
+        history.sort_unstable();
+        Closed {
+            flow,
+            starts,
+            pairs: ListOf::of(history),
+        }
+    }
+}

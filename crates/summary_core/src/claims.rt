@@ -1,0 +1,100 @@
+//! What a board does with its tasks.
+
+ghost use Rattle.std.specs.Prelude.{◌≡◌, ◌<◌, ◌≤◌, ◌↔◌, length, slice_index_or};
+ghost use Rattle.std.specs.Prelude.{IsTrue, MatchOption, OnErr, OnOk};
+ghost use Rattle.std.specs.List.{All, Contains};
+ghost use Rattle.std.specs.List.Sorted.{IsStrictlyIncreasing};
+ghost use Rattle.summary_core.specs.Board.{IsClaimable, IsStale};
+ghost use Rattle.summary_core.specs.Events.{AddsNew};
+ghost use Rattle.summary_core.specs.Claiming.{HasSeen, IsFirstClaimable};
+
+use crate::task::{Stamp, Task};
+use matched_paths::Pair;
+use std::alloc::AllocError;
+
+/// Where the task of the goal stands.
+pub(crate) fn place_of(tasks: &[Task], goal: u32) -> Option<usize>
+    ensures { MatchOption result (All (λ task. ¬ (task.goal ≡ goal)) tasks.now)
+        (λ place. (place < length tasks.now)
+        × ((d : Task) → (slice_index_or tasks.now place d).goal ≡ goal)) }
+{
+    for (place, task) in tasks.iter().enumerate() {
+        if task.goal == goal {
+            return Some(place);
+        }
+    }
+    None
+}
+
+/// Whether the goal was asked.
+fn asks(asked: &[u32], goal: u32) -> bool
+    ensures { IsTrue result ↔ Contains asked.now goal }
+{
+    asked.contains(&goal)
+}
+
+/// Whether the pair stands in the history.
+fn stands(history: &[Pair], pair: Pair) -> bool
+    ensures { IsTrue result ↔ Contains history.now pair }
+{
+    history.contains(&pair)
+}
+
+/// Whether a pair after those that the stamp's search saw begins at a goal that it asked.
+fn is_stale(history: &[Pair], stamp: &Stamp) -> bool
+    requires { stamp.now.seen ≤ length history.now }
+    ensures { IsTrue result ↔ IsStale history.now stamp.now }
+{
+    for place in stamp.seen as usize..history.len() {
+        if asks(stamp.asked.items(), history[place].goal) {
+            return true;
+        }
+    }
+    false
+}
+
+/// Whether the goal of the task is dirty and in no flight.
+fn is_claimable(history: &[Pair], task: &Task) -> bool
+    requires { HasSeen history.now task.now }
+    ensures { IsTrue result ↔ IsClaimable history.now task.now }
+{
+    if task.flies {
+        return false;
+    }
+    match &task.stamp {
+        None => true,
+        Some(stamp) => is_stale(history, stamp),
+    }
+}
+
+/// The first task that is claimable.
+pub(crate) fn first_claimable(history: &[Pair], tasks: &[Task]) -> Option<usize>
+    requires { All (HasSeen history.now) tasks.now }
+    ensures { IsFirstClaimable history.now tasks.now result }
+{
+    for (place, task) in tasks.iter().enumerate() {
+        if is_claimable(history, task) {
+            return Some(place);
+        }
+    }
+    None
+}
+
+/// Adds the pairs of the goal and these outs that do not stand in the history.
+pub(crate) fn add_pairs(history: &mut Vec<Pair>, goal: u32, outs: &[u32]) -> Result<(), AllocError>
+    requires { IsStrictlyIncreasing outs.now }
+    ensures ok { OnOk result (AddsNew history.old.items goal outs.now history.new.items) }
+    ensures err { OnErr result (history.new.items ≡ history.old.items) }
+{
+    let len = history.len();
+    for out in outs {
+        let pair = Pair { goal, out: *out };
+        if !stands(history, pair) {
+            if let Err(failed) = history.push(pair) {
+                history.truncate(len);
+                return Err(failed.into());
+            }
+        }
+    }
+    Ok(())
+}

@@ -1,0 +1,21 @@
+//! The table of summaries: which outs each wanted goal leads to, found by searches that may run in
+//! any order.
+#![tactic(auto)]
+
+mod board;
+mod claims;
+mod closed;
+mod found;
+pub mod laws;
+mod mirror;
+mod search;
+mod task;
+mod wanted;
+
+pub use board::Board;
+pub use closed::Closed;
+pub use found::{Found, Goal};
+pub use matched_paths::Pair;
+pub use mirror::Mirror;
+pub use search::outs;
+pub use task::{Stamp, Task};

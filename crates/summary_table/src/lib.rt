@@ -1,0 +1,6 @@
+//! The closed table of summaries, made in one thread.
+#![tactic(auto)]
+
+mod table;
+
+pub use table::{may_be_closed, table_one};
