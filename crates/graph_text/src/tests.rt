@@ -7,7 +7,7 @@ ghost use Rattle.graph_store.specs.Stored.{plain};
 use crate::{LinePart, dump, print_line};
 use cpg_schema::{Caps, EdgeKind, End, Key, Label, allows};
 use edge_index::index_of;
-use graph_store::{Delta, Graph, apply};
+use graph_store::{ApplyStop, Delta, Graph, apply};
 use joern_io::Tape;
 use std::alloc::{AllocError, Global};
 use std::hash::RandomState;
@@ -204,6 +204,25 @@ fn all_edges() -> &'static [Edge] {
     &EDGES
 }
 
+/// The lines of a graph, on a tape that has room for them.
+fn print(alloc: Global, graph: &Graph) -> Result<Tape, Fail> {
+    let index = index_of(alloc, graph)?;
+    let mut tape = Tape::new(alloc, 4096, 4096, Vec::new(alloc))?;
+    dump(graph, &index, &mut tape)
+        .ok()
+        .ok_or("the tape has no room")?;
+    Ok(tape)
+}
+
+/// How a graph answers to a node more, and how to an edge more.
+fn add_more(graph: &mut Graph) -> Result<[Result<(), ApplyStop>; 2], Fail> {
+    let node = node_delta(graph, Label::Block, &[(Key::Name, Value::Text(b"new"))])?;
+    let to_node = apply(graph, &node);
+    let edge = edge_delta(graph, 0, EdgeKind::Ast, 1, b"")?;
+    let to_edge = apply(graph, &edge.ok_or("the schema allows no such edge")?);
+    Ok([to_node, to_edge])
+}
+
 #[test]
 fn a_graph_is_printed_node_by_node_and_edge_by_edge(rt: HostRuntime) -> Result<(), Fail> {
     let caps = Caps {
@@ -213,11 +232,13 @@ fn a_graph_is_printed_node_by_node_and_edge_by_edge(rt: HostRuntime) -> Result<(
     let mut graph = Graph::new(rt.alloc(), caps, RandomState::new(&rt)?)?;
     add_nodes(&mut graph, all_nodes())?;
     add_edges(&mut graph, all_edges())?;
-    let index = index_of(rt.alloc(), &graph)?;
-    let mut tape = Tape::new(rt.alloc(), 4096, 4096, Vec::new(rt.alloc()))?;
-    assert_eq!(rt; dump(&graph, &index, &mut tape), Ok(()));
     let lines = lines(rt.alloc(), all_nodes(), all_edges())?;
-    assert_eq!(rt; tape.took(), lines.as_slice());
+    assert_eq!(rt; print(rt.alloc(), &graph)?.took(), lines.as_slice());
+
+    // Each refusal leaves a graph that prints as before.
+    let refusals = [Err(ApplyStop::TooManyNodes), Err(ApplyStop::TooManyEdges)];
+    assert_eq!(rt; add_more(&mut graph)?, refusals);
+    assert_eq!(rt; print(rt.alloc(), &graph)?.took(), lines.as_slice());
     Ok(())
 }
 

@@ -45,7 +45,7 @@ impl<'a> Names<'a> {
         })
     }
 
-    /// Adds a name and what ends it, so that each list of names has a text of its own.
+    /// Adds a name and what ends it.
     fn add(&mut self, name: &[u8]) {
         self.digest.update(name);
         self.digest.update(b"\0");
@@ -85,7 +85,8 @@ struct NameDigest {
 }
 
 impl NameDigest {
-    /// The digest of the names of files and of the spellings of the kept tokens.
+    /// The digest of the names of files and of the spellings of the kept tokens that are neither
+    /// keywords nor marks.
     fn of(alloc: Global, source: &Source) -> Result<NameDigest, AllocError> {
         let mut names = Names::of(alloc, source.bytes.items())?;
         let tokens = source.tokens.items();

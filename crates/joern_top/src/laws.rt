@@ -34,7 +34,7 @@ pub fn law_some_outcome()
 }
 
 /// The outcome is Ok where the words give a command, each of its files is held and within the
-/// limit, and each source is accepted.
+/// limit, each source is accepted, and its graph passes no cap.
 pub fn law_can_answer()
     ensures ok { (words : List (List ℕ)) (held : Held) (o : Outcome) →
         CanAnswer words held → IsOutcome words held o → o.status ≡ status.Ok }
