@@ -5,7 +5,7 @@ use mathlib.Core.Option.{some}
 use lib.ListN.{get_elem?}
 use Rattle.atomic_table.specs.Table.{State, opening, Seen, Final}
 use Rattle.turn_lock.specs.declared.view.View.{View}
-use Rattle.turn_lock.specs.Entries.{placed, AreAll, AreAt, Extends}
+use Rattle.turn_lock.specs.Entries.{positioned, AreAll, AreAt, Extends}
 use Rattle.turn_lock.specs.Views.{one_if_some, own_weight, shares_in, tickets_in}
 use Rattle.turn_lock.specs.Rule.{Fits, IsInTurn}
 use Rattle.turn_lock.specs.Steps.{opening_view}
@@ -82,6 +82,6 @@ module _ {T N E : Type 0} (name : T → N) (history : T → List E) (may_become 
             grown = grown;
             became = h.became;
             own = at_later (history x) v.seen v.own grown fit.own;
-            all = λ w. sym (only_one (own_weight w) refl s.views id (Some v) at (shared name history may_become first all s r) (r.shares ∙ sym mine)) ∙ r.whole w ∙ ap (λ (l : List E). sum_by w (placed l)) (sym h.is);
+            all = λ w. sym (only_one (own_weight w) refl s.views id (Some v) at (shared name history may_become first all s r) (r.shares ∙ sym mine)) ∙ r.whole w ∙ ap (λ (l : List E). sum_by w (positioned l)) (sym h.is);
           },
         )

@@ -1,11 +1,11 @@
--- Histories that begin one another, and entries at their places.
+-- Histories that begin one another, and entries at their positions.
 use Rattle.std.proofs.Common.{◌≡◌, ◌≢◌, ℕ, zero, suc, ◌+◌, ◌<◌, ◌≤◌, ◌==◌, nat_lt, nat_eq, cond, if◌then◌else◌, Bool, true, false, List, [], ◌∷◌, ◌++◌, drop, length, slice_get, Some, sym, refl, ap, ◌∙◌, subst, arith, append_assoc, ne_eqb, sum_by}
 use mathlib.Core.Logic.{dite}
 use native.Mathlib.Decide.{ℕ_discrete}
 use Rattle.std.proofs.lemmas.Bool.Decides.{nat_tests}
 use Rattle.std.proofs.lemmas.List.Sums.{sum_by-cons}
-use Rattle.turn_lock.specs.declared.view.Placed.{Placed}
-use Rattle.turn_lock.specs.Entries.{added, longer, shorter, placed, placed_from, AreAll, AreApart, AreAt, Extends}
+use Rattle.turn_lock.specs.declared.view.Positioned.{Positioned}
+use Rattle.turn_lock.specs.Entries.{added, longer, shorter, positioned, positioned_from, AreAll, AreApart, AreAt, Extends}
 
 at_most_one : (b : Bool) → cond b 1 0 ≤ 1
 at_most_one true = omega arith
@@ -74,23 +74,23 @@ module _ {E : Type 0} where
   get_on (y ∷ ys) b zero x e = e
   get_on (y ∷ ys) b (suc k) x e = get_on ys b k x e
 
-  at_more : (a b : List E) (owns : List (Placed E)) → AreAt a owns → AreAt (a ++ b) owns
+  at_more : (a b : List E) (owns : List (Positioned E)) → AreAt a owns → AreAt (a ++ b) owns
   at_more a b [] s = tt
-  at_more a b (own ∷ owns) s = (get_on a b own.place own.entry s.0, at_more a b owns s.1)
+  at_more a b (own ∷ owns) s = (get_on a b own.position own.entry s.0, at_more a b owns s.1)
 
   -- What stands in a history stands in a later one.
-  pub at_later : (log a : List E) (owns : List (Placed E)) → Extends log a → AreAt a owns → AreAt log owns
+  pub at_later : (log a : List E) (owns : List (Positioned E)) → Extends log a → AreAt a owns → AreAt log owns
   at_later log a owns p s = subst (λ (l : List E). AreAt l owns) (sym p.is) (at_more a p.rest owns s)
 
-  pub at_both : (log : List E) (xs ys : List (Placed E)) → AreAt log xs → AreAt log ys → AreAt log (xs ++ ys)
+  pub at_both : (log : List E) (xs ys : List (Positioned E)) → AreAt log xs → AreAt log ys → AreAt log (xs ++ ys)
   at_both log [] ys s t = t
   at_both log (x ∷ xs) ys s t = (s.0, at_both log xs ys s.1 t)
 
-  shift : (y : E) (ys : List E) (n : ℕ) (xs : List E) → AreAt ys (placed_from n xs) → AreAt (y ∷ ys) (placed_from (suc n) xs)
+  shift : (y : E) (ys : List E) (n : ℕ) (xs : List E) → AreAt ys (positioned_from n xs) → AreAt (y ∷ ys) (positioned_from (suc n) xs)
   shift y ys n [] s = tt
   shift y ys n (x ∷ xs) s = (s.0, shift y ys (suc n) xs s.1)
 
-  rest_at : (log rest : List E) → AreAt (log ++ rest) (placed_from (length log) rest)
+  rest_at : (log rest : List E) → AreAt (log ++ rest) (positioned_from (length log) rest)
   rest_at [] [] = tt
   rest_at [] (x ∷ xs) = (refl, shift x xs 0 xs (rest_at [] xs))
   rest_at (y ∷ ys) rest = shift y (ys ++ rest) (length ys) rest (rest_at ys rest)
@@ -102,68 +102,68 @@ module _ {E : Type 0} where
   -- What was added to a history stands in it.
   pub added_at : (later log : List E) → Extends later log → AreAt later (added log later)
   added_at later log p =
-      subst (λ (l : List E). AreAt l (placed_from (length log) (drop (length log) l))) (sym p.is)
-      (subst (λ (r : List E). AreAt (log ++ p.rest) (placed_from (length log) r)) (sym (drop_front log p.rest)) (rest_at log p.rest))
+      subst (λ (l : List E). AreAt l (positioned_from (length log) (drop (length log) l))) (sym p.is)
+      (subst (λ (r : List E). AreAt (log ++ p.rest) (positioned_from (length log) r)) (sym (drop_front log p.rest)) (rest_at log p.rest))
 
-  weight_on : (weight : Placed E → ℕ) (n : ℕ) (log rest : List E) → sum_by weight (placed_from n (log ++ rest)) ≡ sum_by weight (placed_from n log) + sum_by weight (placed_from (length log + n) rest)
-  weight_on weight n [] rest = let e : 0 + n ≡ n = omega arith in let f = ap (λ (k : ℕ). sum_by weight (placed_from k rest)) e in omega arith
+  weight_on : (weight : Positioned E → ℕ) (n : ℕ) (log rest : List E) → sum_by weight (positioned_from n (log ++ rest)) ≡ sum_by weight (positioned_from n log) + sum_by weight (positioned_from (length log + n) rest)
+  weight_on weight n [] rest = let e : 0 + n ≡ n = omega arith in let f = ap (λ (k : ℕ). sum_by weight (positioned_from k rest)) e in omega arith
   weight_on weight n (x ∷ xs) rest =
-      let first : Placed E = record { place = n; entry = x } in
+      let first : Positioned E = record { position = n; entry = x } in
       let r = weight_on weight (suc n) xs rest in
       let e : length xs + suc n ≡ suc (length xs) + n = omega arith in
-      let f = ap (λ (k : ℕ). sum_by weight (placed_from k rest)) e in
-      let c = sum_by-cons weight first (placed_from (suc n) (xs ++ rest)) in
-      let d = sum_by-cons weight first (placed_from (suc n) xs) in
+      let f = ap (λ (k : ℕ). sum_by weight (positioned_from k rest)) e in
+      let c = sum_by-cons weight first (positioned_from (suc n) (xs ++ rest)) in
+      let d = sum_by-cons weight first (positioned_from (suc n) xs) in
       omega (arith, r, f, c, d)
 
   -- A later history weighs as much more as what was added.
-  pub weight_of_added : (weight : Placed E → ℕ) (later log : List E) → Extends later log → sum_by weight (placed later) ≡ sum_by weight (placed log) + sum_by weight (added log later)
+  pub weight_of_added : (weight : Positioned E → ℕ) (later log : List E) → Extends later log → sum_by weight (positioned later) ≡ sum_by weight (positioned log) + sum_by weight (added log later)
   weight_of_added weight later log p =
-      let a = ap (λ (l : List E). sum_by weight (placed_from 0 l)) p.is in
+      let a = ap (λ (l : List E). sum_by weight (positioned_from 0 l)) p.is in
       let b = weight_on weight 0 log p.rest in
       let c : length log + 0 ≡ length log = omega arith in
-      let d = ap (λ (k : ℕ). sum_by weight (placed_from k p.rest)) c in
-      let e = ap (λ (l : List E). sum_by weight (placed_from (length log) (drop (length log) l))) p.is in
-      let f = ap (λ (l : List E). sum_by weight (placed_from (length log) l)) (drop_front log p.rest) in
+      let d = ap (λ (k : ℕ). sum_by weight (positioned_from k p.rest)) c in
+      let e = ap (λ (l : List E). sum_by weight (positioned_from (length log) (drop (length log) l))) p.is in
+      let f = ap (λ (l : List E). sum_by weight (positioned_from (length log) l)) (drop_front log p.rest) in
       omega (arith, a, b, d, e, f)
 
-  abbrev one_at : ℕ → Placed E → ℕ
-  one_at place own = cond (own.place == place) 1 0
+  abbrev one_at : ℕ → Positioned E → ℕ
+  one_at position own = cond (own.position == position) 1 0
 
-  elsewhere : (place n : ℕ) (x : E) → n ≢ place → one_at place (record { place = n; entry = x }) ≡ 0
-  elsewhere place n x h = let a : one_at place (record { place = n; entry = x }) ≤ 0 = none_if_false (nat_eq n place) (ne_eqb n place h) in omega arith
+  elsewhere : (position n : ℕ) (x : E) → n ≢ position → one_at position (record { position = n; entry = x }) ≡ 0
+  elsewhere position n x h = let a : one_at position (record { position = n; entry = x }) ≤ 0 = none_if_false (nat_eq n position) (ne_eqb n position h) in omega arith
 
-  none_before : (place n : ℕ) (xs : List E) → place < n → sum_by (one_at place) (placed_from n xs) ≡ 0
-  none_before place n [] h = refl
-  none_before place n (x ∷ xs) h =
-      let a = elsewhere place n x (λ e. absurd (omega arith)) in
-      let b = none_before place (suc n) xs (omega arith) in
-      omega (arith, a, b, sum_by-cons (one_at place) (record { place = n; entry = x }) (placed_from (suc n) xs))
+  none_before : (position n : ℕ) (xs : List E) → position < n → sum_by (one_at position) (positioned_from n xs) ≡ 0
+  none_before position n [] h = refl
+  none_before position n (x ∷ xs) h =
+      let a = elsewhere position n x (λ e. absurd (omega arith)) in
+      let b = none_before position (suc n) xs (omega arith) in
+      omega (arith, a, b, sum_by-cons (one_at position) (record { position = n; entry = x }) (positioned_from (suc n) xs))
 
-  places_apart : (place n : ℕ) (xs : List E) → sum_by (one_at place) (placed_from n xs) ≤ 1
-  places_apart place n [] = omega arith
-  places_apart place n (x ∷ xs) =
-      let first : Placed E = record { place = n; entry = x } in
-      let c = sum_by-cons (one_at place) first (placed_from (suc n) xs) in
-      dite (ℕ_discrete n place)
-      (λ (e : n ≡ place). let a : one_at place first ≤ 1 = at_most_one (nat_eq n place) in let b = none_before place (suc n) xs (omega arith) in omega (arith, a, b, c))
-      (λ (e : n ≢ place). let a = elsewhere place n x e in let b = places_apart place (suc n) xs in omega (arith, a, b, c))
+  positions_apart : (position n : ℕ) (xs : List E) → sum_by (one_at position) (positioned_from n xs) ≤ 1
+  positions_apart position n [] = omega arith
+  positions_apart position n (x ∷ xs) =
+      let first : Positioned E = record { position = n; entry = x } in
+      let c = sum_by-cons (one_at position) first (positioned_from (suc n) xs) in
+      dite (ℕ_discrete n position)
+      (λ (e : n ≡ position). let a : one_at position first ≤ 1 = at_most_one (nat_eq n position) in let b = none_before position (suc n) xs (omega arith) in omega (arith, a, b, c))
+      (λ (e : n ≢ position). let a = elsewhere position n x e in let b = positions_apart position (suc n) xs in omega (arith, a, b, c))
 
   -- All entries of a history are apart.
-  pub all_apart : (owns : List (Placed E)) (log : List E) → AreAll log owns → AreApart owns
-  all_apart owns log h place = let a = h (one_at place) in let b = places_apart place 0 log in omega (arith, a, b)
+  pub all_apart : (owns : List (Positioned E)) (log : List E) → AreAll log owns → AreApart owns
+  all_apart owns log h position = let a = h (one_at position) in let b = positions_apart position 0 log in omega (arith, a, b)
 
-  -- Entries with their places, weighed by the entries alone.
-  pub weight_of_placed : (weight : E → ℕ) (n : ℕ) (xs : List E) → sum_by (λ (own : Placed E). weight own.entry) (placed_from n xs) ≡ sum_by weight xs
-  weight_of_placed weight n [] = refl
-  weight_of_placed weight n (x ∷ xs) =
-      let r = weight_of_placed weight (suc n) xs in
-      let c = sum_by-cons (λ (own : Placed E). weight own.entry) (record { place = n; entry = x }) (placed_from (suc n) xs) in
+  -- Entries with their positions, weighed by the entries alone.
+  pub weight_of_positioned : (weight : E → ℕ) (n : ℕ) (xs : List E) → sum_by (λ (own : Positioned E). weight own.entry) (positioned_from n xs) ≡ sum_by weight xs
+  weight_of_positioned weight n [] = refl
+  weight_of_positioned weight n (x ∷ xs) =
+      let r = weight_of_positioned weight (suc n) xs in
+      let c = sum_by-cons (λ (own : Positioned E). weight own.entry) (record { position = n; entry = x }) (positioned_from (suc n) xs) in
       omega (arith, r, c, sum_by-cons weight x xs)
 
   -- What was added, weighed by the entries alone.
-  pub weight_of_rest : (weight : E → ℕ) (later log rest : List E) → later ≡ log ++ rest → sum_by (λ (own : Placed E). weight own.entry) (added log later) ≡ sum_by weight rest
+  pub weight_of_rest : (weight : E → ℕ) (later log rest : List E) → later ≡ log ++ rest → sum_by (λ (own : Positioned E). weight own.entry) (added log later) ≡ sum_by weight rest
   weight_of_rest weight later log rest e =
-      let a = ap (λ (l : List E). sum_by (λ (own : Placed E). weight own.entry) (placed_from (length log) (drop (length log) l))) e in
-      let b = ap (λ (l : List E). sum_by (λ (own : Placed E). weight own.entry) (placed_from (length log) l)) (drop_front log rest) in
-      a ∙ b ∙ weight_of_placed weight (length log) rest
+      let a = ap (λ (l : List E). sum_by (λ (own : Positioned E). weight own.entry) (positioned_from (length log) (drop (length log) l))) e in
+      let b = ap (λ (l : List E). sum_by (λ (own : Positioned E). weight own.entry) (positioned_from (length log) l)) (drop_front log rest) in
+      a ∙ b ∙ weight_of_positioned weight (length log) rest

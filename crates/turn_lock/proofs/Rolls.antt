@@ -2,9 +2,9 @@
 use Rattle.std.proofs.Common.{ℕ, suc, ◌≡◌, ◌+◌, ◌<◌, List, [], ◌∷◌, ◌++◌, length, slice_index_or, sum_by, take, ap, refl, arith, ◌∙◌}
 use Rattle.std.proofs.Math.Seq.{take-append_seam}
 use Rattle.std.proofs.lemmas.List.Sums.{sum_by-append, sum_by-cons, sum_by_push}
-use Rattle.turn_lock.specs.declared.view.Placed.{Placed}
+use Rattle.turn_lock.specs.declared.view.Positioned.{Positioned}
 
--- Where two lists are as long and have equal numbers at each place, they weigh the same.
+-- Where two lists are as long and have equal numbers at each position, they weigh the same.
 pub sum_by_same : {W : Type 0} (f : W → ℕ) (xs ys : List W) → length ys ≡ length xs → ((k : ℕ) (d : W) → k < length xs → f (slice_index_or ys k d) ≡ f (slice_index_or xs k d)) → sum_by f ys ≡ sum_by f xs
 sum_by_same f [] [] len same = refl
 sum_by_same f [] (y ∷ ys) len same = absurd (omega (arith, len))
@@ -15,14 +15,14 @@ sum_by_same f (x ∷ xs) (y ∷ ys) len same =
     omega (arith, first, rest, sum_by-cons f x xs, sum_by-cons f y ys)
 
 -- A worker is taken from those that are left, and what its seat added goes to the seat that is kept.
-pub joined_weight : {W : Type 0} (weight : ℕ → ℕ) (before own after : List (Placed ℕ)) (item : ℕ) (left : List W) (worker : W) (all : List W) (item_of : W → ℕ)
+pub joined_weight : {W : Type 0} (weight : ℕ → ℕ) (before own after : List (Positioned ℕ)) (item : ℕ) (left : List W) (worker : W) (all : List W) (item_of : W → ℕ)
     → item_of worker ≡ item → all ≡ left ++ worker ∷ [] → after ≡ before ++ own → {total : ℕ}
-    → sum_by (λ (p : Placed ℕ). weight p.entry) before + sum_by (λ (w : W). weight (item_of w)) all ≡ total
-    → sum_by (λ (p : Placed ℕ). weight p.entry) own ≡ weight item
-    → sum_by (λ (p : Placed ℕ). weight p.entry) after + sum_by (λ (w : W). weight (item_of w)) left ≡ total
+    → sum_by (λ (p : Positioned ℕ). weight p.entry) before + sum_by (λ (w : W). weight (item_of w)) all ≡ total
+    → sum_by (λ (p : Positioned ℕ). weight p.entry) own ≡ weight item
+    → sum_by (λ (p : Positioned ℕ). weight p.entry) after + sum_by (λ (w : W). weight (item_of w)) left ≡ total
 joined_weight {W} weight before own after item left worker all item_of its items adds sum wrote =
-    let a = ap (sum_by (λ (p : Placed ℕ). weight p.entry)) adds in
-    let b = sum_by-append (λ (p : Placed ℕ). weight p.entry) before own in
+    let a = ap (sum_by (λ (p : Positioned ℕ). weight p.entry)) adds in
+    let b = sum_by-append (λ (p : Positioned ℕ). weight p.entry) before own in
     let d = ap (sum_by (λ (w : W). weight (item_of w))) items in
     let e = sum_by_push (λ (w : W). weight (item_of w)) left worker in
     let f = ap weight its in

@@ -8,7 +8,7 @@ use lib.ListN.{get_elem?}
 use Rattle.atomic_table.specs.Table.{State, step, keeps, takes, gives, stepped, Allows}
 use Rattle.atomic_table.proofs.Lists.{set_again, set_here, at_set, one_turn}
 use Rattle.turn_lock.specs.declared.view.View.{View}
-use Rattle.turn_lock.specs.Entries.{added, placed, Extends}
+use Rattle.turn_lock.specs.Entries.{added, positioned, Extends}
 use Rattle.turn_lock.specs.Views.{one_if_some, own_weight, shares_in, tickets_in}
 use Rattle.turn_lock.specs.Rule.{Fits, IsInTurn, NoneHolds}
 use Rattle.turn_lock.specs.Steps.{gave, Draws, Looks, PassesOn}
@@ -181,7 +181,7 @@ module _ {T N E : Type 0} (name : T → N) (history : T → List E) (may_become 
               let a = sum_set (own_weight h) s.views id (Some v) (Some w) at in
               let b = sum_by-append h v.own (added v.seen (history y)) in
               let c = weight_of_added h (history y) v.seen grown in
-              let d : sum_by h (placed v.seen) ≡ sum_by h (placed r.log) = ap (λ (l : List E). sum_by h (placed l)) now.1 in
+              let d : sum_by h (positioned v.seen) ≡ sum_by h (positioned r.log) = ap (λ (l : List E). sum_by h (positioned l)) now.1 in
               omega (arith, a, b, c, d, r.whole h);
           fits = λ j u e. ⊎_elim (λ p. subst (FitsIn (history y) (r.served + 1) r.drawn) (some_is w u p.1) (record {
             first_is = f.first_is;

@@ -16,7 +16,7 @@ module _ {T E : Type 0} where
   at_one a u zero e = (refl, some-injective a u e)
   at_one a u (suc j) e = absurd (some-ne-none u (sym e))
 
-  -- One view at one place.
+  -- One view at one position.
   pub one_view : (vs : List (Option (View T E))) (i j : ℕ) (v w : View T E) → get_elem? vs i ≡ some (Some v) → get_elem? vs j ≡ some (Some w) → j ≡ i → v ≡ w
   one_view vs i j v w a b q = some_is v w (some-injective (Some v) (Some w) (sym a ∙ (ap (λ (k : ℕ). get_elem? vs k) (sym q) ∙ b)))
 

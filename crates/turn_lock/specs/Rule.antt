@@ -21,9 +21,9 @@ use Rattle.std.specs.Prelude.{
 use mathlib.Core.Option.{some, Option as Slot}
 use lib.ListN.{get_elem?}
 use Rattle.atomic_table.specs.Table.{State}
-use Rattle.turn_lock.specs.declared.view.Placed.{Placed}
+use Rattle.turn_lock.specs.declared.view.Positioned.{Positioned}
 use Rattle.turn_lock.specs.declared.view.View.{View}
-use Rattle.turn_lock.specs.Entries.{placed, AreAt, Extends}
+use Rattle.turn_lock.specs.Entries.{positioned, AreAt, Extends}
 use Rattle.turn_lock.specs.Views.{own_weight, shares_in, tickets_in}
 
 module _ {T E : Type 0} where
@@ -69,8 +69,8 @@ module _ {T N E : Type 0} (name : T → N) (history : T → List E)
     pub out : drawn ≡ served + sum_by tickets_in state.views
     pub shares : sum_by shares_in state.views ≡ all
     pub few : all < 2 ^ 32
-    pub whole : (weight : Placed E → ℕ) →
-        sum_by (own_weight weight) state.views ≡ sum_by weight (placed log)
+    pub whole : (weight : Positioned E → ℕ) →
+        sum_by (own_weight weight) state.views ≡ sum_by weight (positioned log)
     pub fits : (seat : ℕ) (view : View T E) →
         get_elem? state.views seat ≡ some (Some view) → Fits log served drawn view
     pub alone : AreAlone state.views

@@ -1,6 +1,6 @@
 -- What a seat of a lock is, as contracts see it (ours).
 use Rattle.std.specs.Prelude.{◌≡◌, ℕ, List, [], ◌∷◌, Some, None}
-use Rattle.turn_lock.specs.declared.view.Placed.{Placed}
+use Rattle.turn_lock.specs.declared.view.Positioned.{Positioned}
 use Rattle.turn_lock.specs.declared.view.View.{View}
 use Rattle.turn_lock.specs.declared.seat.Seat.{Seat}
 use Rattle.turn_lock.specs.declared.turn.Turn.{Turn}
@@ -19,8 +19,8 @@ module _ {T N E : Type 0} where
   abbrev pub seen : Seat T N E → List E
   seen seat = seen_in seat.inner.me.0
 
-  -- The entries that the seat added, each with its place in the history.
-  abbrev pub own : Seat T N E → List (Placed E)
+  -- The entries that the seat added, each with its position in the history.
+  abbrev pub own : Seat T N E → List (Positioned E)
   own seat = own_in seat.inner.me.0
 
   -- How many of the lock's shares the seat has.

@@ -1,7 +1,7 @@
 -- What the rule of the lock counts in the view of a seat (ours). A seat that was joined to another
 -- has the view None.
 use Rattle.std.specs.Prelude.{ℕ, List, [], sum_by, Option, Some, None}
-use Rattle.turn_lock.specs.declared.view.Placed.{Placed}
+use Rattle.turn_lock.specs.declared.view.Positioned.{Positioned}
 use Rattle.turn_lock.specs.declared.view.View.{View}
 
 -- A ticket counts as one.
@@ -18,7 +18,7 @@ module _ {T E : Type 0} where
   seen_in None = []
   seen_in (Some view) = view.seen
 
-  abbrev pub own_in : Option (View T E) → List (Placed E)
+  abbrev pub own_in : Option (View T E) → List (Positioned E)
   own_in None = []
   own_in (Some view) = view.own
 
@@ -31,6 +31,6 @@ module _ {T E : Type 0} where
   tickets_in (Some view) = one_if_some view.ticket
 
   -- What the own entries of a seat weigh.
-  abbrev pub own_weight : (Placed E → ℕ) → Option (View T E) → ℕ
+  abbrev pub own_weight : (Positioned E → ℕ) → Option (View T E) → ℕ
   own_weight weight None = 0
   own_weight weight (Some view) = sum_by weight view.own

@@ -2,7 +2,8 @@
 
 ghost use Rattle.std.specs.Prelude.{◌≡◌, List, length};
 
-/// A value with a name that stays and a history that only grows.
+/// A value with a name and a history. Who gives it back to the lock has kept the name, and has at
+/// most extended the history.
 ///
 /// The three members exist for contracts alone. What a holder may do to the value is `may_become`,
 /// between the value that it took and the value that it gives back.

@@ -1,5 +1,5 @@
-//! A ticket lock round one value: what a worker has seen of the value's history, every later holder
-//! has, and each entry that a worker adds stands in the history once.
+//! A ticket lock round one value: what a seat has seen of the value's history it finds again at
+//! each take, and each entry that a worker adds stands in the history once.
 #![tactic(auto)]
 
 mod bells;

@@ -140,7 +140,7 @@ fn run<R: Threads + Wait + Sync>(
     items: &[u32],
 ) -> Option<Roll>
     requires seated { IsSeated turn (length items.now + 1) seat }
-    requires all { all_shares turn ≡ length items.now + 1 }
+    requires all_shares { all_shares turn ≡ length items.now + 1 }
     requires none { own seat ≡ [] }
     requires room { (workers.items ≡ []) × (length items.now ≤ vec_capacity workers) }
     ensures { IfSome result (λ roll. HasEach items.now roll.items.items) }

@@ -40,7 +40,7 @@ impl<T: Kept> Turn<T> {
         requires empty { T.history value ≡ [] }
         requires some { 1 ≤ shares }
         ensures first { IfOk result (λ made. first_value made.0 ≡ value) }
-        ensures all { IfOk result (λ made. all_shares made.0 ≡ shares) }
+        ensures all_shares { IfOk result (λ made. all_shares made.0 ≡ shares) }
         ensures turn { IfOk result (λ made. IsOf made.0 made.1) }
         ensures free { IfOk result (λ made. IsFree made.1) }
         ensures shares { IfOk result (λ made. shares_of made.1 ≡ shares) }
@@ -169,13 +169,13 @@ impl<T: Kept> Turn<T> {
     pub fn close(self, seat: Seat<T>) -> T
         requires turn { IsOf self seat }
         requires free { IsFree seat }
-        requires all { shares_of seat ≡ all_shares self }
+        requires all_shares { shares_of seat ≡ all_shares self }
         ensures named { T.name result ≡ T.name (first_value self) }
         ensures grown { Extends (T.history result) (seen seat) }
         ensures became { T.may_become (first_value self) result }
-        ensures placed { AreAt (T.history result) (own seat) }
+        ensures positioned { AreAt (T.history result) (own seat) }
         ensures apart { AreApart (own seat) }
-        ensures all { AreAll (T.history result) (own seat) }
+        ensures whole { AreAll (T.history result) (own seat) }
     {
         let Turn { table, bells: _ } = self;
         let Seat { inner, shares: _ } = seat;

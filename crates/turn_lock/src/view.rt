@@ -2,9 +2,9 @@
 
 use std::collections::LinkedList;
 
-/// An entry and its place in the history, from 0.
-pub(crate) struct Placed<E> {
-    pub(crate) place: u64,
+/// An entry and its position in the history, from 0.
+pub(crate) struct Positioned<E> {
+    pub(crate) position: u64,
     pub(crate) entry: E,
 }
 
@@ -17,7 +17,7 @@ pub(crate) struct View<T, E> {
     /// The shorter of the two histories that the last join put together.
     pub(crate) shorter: LinkedList<E>,
     /// The entries that the seat added.
-    pub(crate) own: LinkedList<Placed<E>>,
+    pub(crate) own: LinkedList<Positioned<E>>,
     pub(crate) shares: u64,
     /// How many of them the next split gives away.
     pub(crate) offer: u64,
