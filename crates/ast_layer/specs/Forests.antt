@@ -7,16 +7,16 @@ use Rattle.c_tree.specs.declared.tree.Unit.{Unit}
 use Rattle.c_tree.specs.declared.tree.Item.{Item}
 use Rattle.c_tree.specs.declared.tree.Item.TheVariants as item
 use Rattle.c_tree.specs.declared.tree.Specs.{Specs}
-use Rattle.c_tree.specs.declared.tree.Spec.{Spec}
-use Rattle.c_tree.specs.declared.tree.Spec.TheVariants as spec
-use Rattle.c_tree.specs.declared.tree.Declarator.{Declarator}
-use Rattle.c_tree.specs.declared.tree.Core.{Core}
-use Rattle.c_tree.specs.declared.tree.Core.TheVariants as core
+use Rattle.c_tree.specs.declared.tree.Spec.{Spec, out-Spec}
+use Rattle.c_tree.specs.declared.tree.Declarator.{Declarator, out-Declarator}
+use Rattle.c_tree.specs.declared.tree.Core.{out-Core}
+use Rattle.c_tree.specs.declared.tree.BaseForm.TheOpen as o
 use Rattle.c_tree.specs.declared.tree.Block.{Block}
-use Rattle.c_tree.specs.declared.tree.BlockItem.{BlockItem}
-use Rattle.c_tree.specs.declared.tree.BlockItem.TheVariants as block_item
-use Rattle.c_tree.specs.declared.tree.StmtKind.{StmtKind}
-use Rattle.c_tree.specs.declared.tree.StmtKind.TheVariants as stmt_kind
+use Rattle.c_tree.specs.declared.tree.BlockItem.{BlockItem, out-BlockItem}
+use Rattle.c_tree.specs.declared.tree.BlockItem.TheOpen as s
+use Rattle.c_tree.specs.declared.tree.StmtKind.{out-StmtKind}
+use Rattle.c_tree.specs.declared.tree.Expr.{out-Expr}
+use Rattle.c_tree.specs.Folds.{OpenBlockItem, OpenCore, OpenSpec, OpenStmtKind}
 use Rattle.c_tree.specs.declared.tree.Assign.{Assign}
 use Rattle.graph_forest.specs.declared.rank.Rank.{Rank}
 use Rattle.ast_layer.specs.Source.{File}
@@ -36,13 +36,30 @@ grouped_forest file rank (Joined operator left right) =
 
 -- ---- Statements (6.8)
 
--- The parts of a statement's expression; this version reads one (6.8.3).
-abbrev pub kind_parts : StmtKind → List Assign
-kind_parts (stmt_kind.Value expr marks) = expr.parts
+-- The parts of a statement's expression; this version reads one (6.8.3). Ours: the other statements
+-- have none, and this version reads none of them.
+abbrev pub kind_parts : OpenStmtKind → List Assign
+kind_parts (s.StmtKind-F.Empty marks) = []
+kind_parts (s.StmtKind-F.Value expr marks) = (out-Expr expr).parts
+kind_parts (s.StmtKind-F.Braced block) = []
+kind_parts (s.StmtKind-F.If arms other marks) = []
+kind_parts (s.StmtKind-F.While expr body marks) = []
+kind_parts (s.StmtKind-F.DoWhile body expr marks) = []
+kind_parts (s.StmtKind-F.For init cond step body marks) = []
+kind_parts (s.StmtKind-F.Switch expr body marks) = []
+kind_parts (s.StmtKind-F.Break marks) = []
+kind_parts (s.StmtKind-F.Continue marks) = []
+kind_parts (s.StmtKind-F.Goto name marks) = []
+kind_parts (s.StmtKind-F.Return expr marks) = []
 
--- The same, of an item of a body.
+-- The same, of an item of a body. A declaration has none, and this version reads none.
+abbrev pub open_parts : OpenBlockItem → List Assign
+open_parts (s.BlockItem-F.Declare declaration) = []
+open_parts (s.BlockItem-F.Do stmt) = kind_parts (out-StmtKind stmt.kind)
+
+-- The same, of an item as it stands in a tree.
 abbrev pub item_parts : BlockItem → List Assign
-item_parts (block_item.Do stmt) = kind_parts stmt.kind
+item_parts item = open_parts (out-BlockItem item)
 
 -- How the first part is grouped, if there is one.
 abbrev pub grouped_part : Option Assign → Option Grouped
@@ -78,34 +95,47 @@ block_forest file block =
 
 -- ---- Functions (6.9.1)
 
+-- The token of the name that stands in the core of a declarator.
+abbrev pub core_token : OpenCore → Option ℕ
+core_token (o.Core-F.Core::Name token) = Some token
+core_token (o.Core-F.Core::Group declarator marks) = None
+core_token o.Core-F.Empty = None
+
 -- The token of the name that a declarator declares.
-abbrev pub core_token : Core → Option ℕ
-core_token (core.Name token) = Some token
-core_token core.Empty = None
-
--- The same, of the whole declarator.
 abbrev pub name_token : Declarator → Option ℕ
-name_token declarator = core_token declarator.core
+name_token declarator = core_token (out-Core (out-Declarator declarator).core)
 
--- The token of a type specifier; this version reads one in each list.
-abbrev pub spec_token : Spec → ℕ
-spec_token (spec.Basic token) = token
+-- The token of a type specifier of one keyword; this version reads one in each list, and no other
+-- specifier.
+abbrev pub spec_token : OpenSpec → Option ℕ
+spec_token (o.Spec-F.Storage token) = None
+spec_token (o.Spec-F.Function token) = None
+spec_token (o.Spec-F.Qualifier token) = None
+spec_token (o.Spec-F.Basic token) = Some token
+spec_token (o.Spec-F.Named token) = None
+spec_token (o.Spec-F.Atomic type_name marks) = None
+spec_token (o.Spec-F.AlignType type_name marks) = None
+spec_token (o.Spec-F.AlignExpr expr marks) = None
+spec_token (o.Spec-F.Record kind tag body marks) = None
+spec_token (o.Spec-F.Enumeration kind tag body marks) = None
 
 -- The token of the specifier, if there is one.
 abbrev pub first_spec : Option Spec → Option ℕ
 first_spec None = None
-first_spec (Some spec) = Some (spec_token spec)
+first_spec (Some spec) = spec_token (out-Spec spec)
 
 -- The token of the first type specifier, if there is one.
 abbrev pub type_token : Specs → Option ℕ
 type_token specs = first_spec (slice_get specs.words 0)
 
--- A METHOD, whose children are the BLOCK of its body and its METHOD_RETURN.
+-- A METHOD, whose children are the BLOCK of its body and its METHOD_RETURN. Ours: a declaration, of
+-- which this version reads none, has no node.
 abbrev pub function_forest : File → ℕ → Item → Forest
 function_forest file order (item.Define specs declarator body) =
     branch Plain (method_node file (name_token declarator) order)
     (beside (block_forest file body)
     (leaf Plain (return_node file (name_token declarator) (type_token specs))))
+function_forest file order (item.Declare declaration) = none
 
 -- ---- Files (6.9)
 

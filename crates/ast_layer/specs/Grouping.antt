@@ -1,10 +1,12 @@
 -- How the operands of an expression are grouped (C11 6.5 p3).
 use Rattle.std.specs.Prelude.{ℕ, List, [], ◌∷◌, Option, Some, slice_get}
 use Rattle.c_tree.specs.declared.tree.Prefixed.{Prefixed}
-use Rattle.c_tree.specs.declared.tree.BaseForm.{BaseForm}
-use Rattle.c_tree.specs.declared.tree.BaseForm.TheVariants as base_form
-use Rattle.c_tree.specs.declared.tree.Binary.{Binary}
-use Rattle.c_tree.specs.declared.tree.Assign.{Assign}
+use Rattle.c_tree.specs.declared.tree.BaseForm.{BaseForm, out-BaseForm}
+use Rattle.c_tree.specs.declared.tree.BaseForm.TheOpen as o
+use Rattle.c_tree.specs.declared.tree.Binary.{Binary, out-Binary}
+use Rattle.c_tree.specs.declared.tree.Cond.{out-Cond}
+use Rattle.c_tree.specs.declared.tree.Assign.{Assign, out-Assign}
+use Rattle.c_tree.specs.Folds.{OpenBaseForm}
 
 -- An operand, or an operator with a left and a right side; an operator is the number of its token.
 pub data Grouped : Type 0 where
@@ -25,18 +27,28 @@ to_the_right (target ∷ targets) value =
 
 -- Operands that are joined by binary operators of one precedence.
 abbrev pub grouped_binary : Binary → Grouped
-grouped_binary binary = to_the_left (Operand binary.first) binary.rest
+grouped_binary binary = to_the_left (Operand (out-Binary binary).first) (out-Binary binary).rest
 
--- An assignment expression.
+-- An assignment expression. Ours: this version's trees have no conditions in a value (6.5.15), of
+-- which it groups what stands last.
 abbrev pub grouped_assign : Assign → Grouped
-grouped_assign assign = to_the_right assign.targets (grouped_binary assign.value.last)
+grouped_assign assign =
+    to_the_right (out-Assign assign).targets
+    (grouped_binary (out-Cond (out-Assign assign).value).last)
 
--- The first token of a primary expression (6.5.1).
+-- The first token of what suffixes are applied to (6.5.1, 6.5.2.5, 6.5.3.4).
+abbrev pub open_token : OpenBaseForm → Option ℕ
+open_token (o.BaseForm-F.BaseForm::Name token) = Some token
+open_token (o.BaseForm-F.Literal tokens) = slice_get tokens 0
+open_token (o.BaseForm-F.BaseForm::Group expr marks) = slice_get marks 0
+open_token (o.BaseForm-F.Compound type_name list marks) = slice_get marks 0
+open_token (o.BaseForm-F.SizeType size type_name marks) = Some size
+
+-- The same, of a form as it stands in a tree.
 abbrev pub form_token : BaseForm → Option ℕ
-form_token (base_form.Name token) = Some token
-form_token (base_form.Literal tokens) = slice_get tokens 0
+form_token form = open_token (out-BaseForm form)
 
--- The first token of an operand.
+-- The first token of an operand, which has no operator before it: ours, this version reads none.
 abbrev pub operand_token : Prefixed → Option ℕ
 operand_token operand = form_token operand.base.form
 

@@ -4,8 +4,9 @@ use Rattle.std.specs.Prelude.{ℕ, Option, Some, codes, take, slice_get}
 use Rattle.cpg_schema.specs.declared.label.Label.TheVariants as label
 use Rattle.cpg_schema.specs.Graph.{PlainNode, bare_node}
 use Rattle.c_tree.specs.declared.tree.Prefixed.{Prefixed}
-use Rattle.c_tree.specs.declared.tree.BaseForm.{BaseForm}
-use Rattle.c_tree.specs.declared.tree.BaseForm.TheVariants as base_form
+use Rattle.c_tree.specs.declared.tree.BaseForm.{BaseForm, out-BaseForm}
+use Rattle.c_tree.specs.declared.tree.BaseForm.TheOpen as o
+use Rattle.c_tree.specs.Folds.{OpenBaseForm}
 use Rattle.graph_forest.specs.declared.rank.Rank.{Rank}
 use Rattle.graph_forest.specs.Ranks.{argument_index}
 use Rattle.ast_layer.specs.Source.{File, token_of, presumed_line_at, presumed_file_at, spelling_at}
@@ -70,20 +71,39 @@ call_node file operator first rank = record (bare_node label.Call) {
   argument_index = argument_index rank;
 }
 
--- The IDENTIFIER or the LITERAL that a primary expression is.
-abbrev pub form_node : File → BaseForm → Rank → PlainNode
-form_node file (base_form.Name token) rank = record (bare_node label.Identifier) {
+-- The IDENTIFIER of a name.
+abbrev pub identifier_node : File → ℕ → Rank → PlainNode
+identifier_node file token rank = record (bare_node label.Identifier) {
   name = Some (spelling_at file (Some token));
   line_number = Some (presumed_line_at file (Some token));
   order = Some rank.order;
   argument_index = argument_index rank;
 }
-form_node file (base_form.Literal tokens) rank = record (bare_node label.Literal) {
-  code = Some (spelling_at file (slice_get tokens 0));
-  line_number = Some (presumed_line_at file (slice_get tokens 0));
+
+-- The LITERAL of a literal's first token.
+abbrev pub literal_node : File → Option ℕ → Rank → PlainNode
+literal_node file token rank = record (bare_node label.Literal) {
+  code = Some (spelling_at file token);
+  line_number = Some (presumed_line_at file token);
   order = Some rank.order;
   argument_index = argument_index rank;
 }
+
+-- The IDENTIFIER of a name, or the LITERAL of a literal. Ours: this version's trees have no other
+-- form, and one would count as a literal of its first token.
+abbrev pub open_node : File → OpenBaseForm → Rank → PlainNode
+open_node file (o.BaseForm-F.BaseForm::Name token) rank = identifier_node file token rank
+open_node file (o.BaseForm-F.Literal tokens) rank = literal_node file (slice_get tokens 0) rank
+open_node file (o.BaseForm-F.BaseForm::Group expr marks) rank =
+    literal_node file (slice_get marks 0) rank
+open_node file (o.BaseForm-F.Compound type_name list marks) rank =
+    literal_node file (slice_get marks 0) rank
+open_node file (o.BaseForm-F.SizeType size type_name marks) rank =
+    literal_node file (Some size) rank
+
+-- The same, of a form as it stands in a tree.
+abbrev pub form_node : File → BaseForm → Rank → PlainNode
+form_node file form rank = open_node file (out-BaseForm form) rank
 
 -- The node of an operand.
 abbrev pub operand_node : File → Prefixed → Rank → PlainNode

@@ -20,6 +20,9 @@ fn token_of(operand: &Prefixed) -> Option<u32>
     match &operand.base.form {
         BaseForm::Name(token) => Some(*token),
         BaseForm::Literal(tokens) => tokens.items().first().copied(),
+        BaseForm::Group(_, marks) => marks.items().first().copied(),
+        BaseForm::Compound(_, _, marks) => marks.items().first().copied(),
+        BaseForm::SizeType(size, ..) => Some(*size),
     }
 }
 

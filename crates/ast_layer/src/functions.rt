@@ -4,8 +4,9 @@
 ghost use Rattle.std.specs.Prelude.{◌≡◌, ◌+◌, OnOk, IfOk};
 ghost use Rattle.graph_forest.specs.Planting.{Plants};
 ghost use Rattle.ast_layer.specs.Source.{file_of};
+ghost use Rattle.c_tree.specs.declared.tree.StmtKind.{out-StmtKind};
 ghost use Rattle.ast_layer.specs.Forests.{block_forest, children_forest, expressions, item_parts};
-ghost use Rattle.ast_layer.specs.Forests.{function_forest, name_token, type_token};
+ghost use Rattle.ast_layer.specs.Forests.{function_forest, kind_parts, name_token, type_token};
 
 use crate::source::Source;
 use c_tree::{Assign, Block, BlockItem, Core, Declarator, Item, Spec, Specs, StmtKind};
@@ -18,6 +19,7 @@ fn name_of(declarator: &Declarator) -> Option<u32>
 {
     match &declarator.core {
         Core::Name(token) => Some(*token),
+        Core::Group(..) => None,
         Core::Empty => None,
     }
 }
@@ -28,17 +30,27 @@ fn type_of(specs: &Specs) -> Option<u32>
 {
     match specs.words.items().first()? {
         Spec::Basic(token) => Some(*token),
+        _ => None,
     }
 }
 
-/// The parts of the expression of a statement.
+/// The parts of the expression of a statement, if it is an expression statement.
+fn parts_of_kind(kind: &StmtKind) -> &[Assign]
+    ensures { result.now ≡ kind_parts (out-StmtKind kind.now) }
+{
+    match kind {
+        StmtKind::Value(expr, _) => expr.parts.items(),
+        _ => &[],
+    }
+}
+
+/// The parts of the expression of a statement, if the item is one.
 fn parts_of(item: &BlockItem) -> &[Assign]
     ensures { result.now ≡ item_parts item.now }
 {
     match item {
-        BlockItem::Do(stmt) => match &stmt.kind {
-            StmtKind::Value { expr, .. } => expr.parts.items(),
-        },
+        BlockItem::Declare(_) => &[],
+        BlockItem::Do(stmt) => parts_of_kind(&stmt.kind),
     }
 }
 
@@ -51,6 +63,7 @@ pub(crate) fn next_order(order: u32) -> Result<u32, AllocError>
 
 impl Source {
     /// Plants a function.
+    #[tactic(auto, using(graph_forest::proofs::Composing::plants_none))]
     pub(crate) fn plant_function(
         &self,
         planter: &mut Planter,
@@ -66,6 +79,7 @@ impl Source {
                 declarator,
                 body,
             } => self.plant_define(planter, specs, declarator, body, order),
+            Item::Declare(_) => Ok(()),
         }
     }
 

@@ -4,7 +4,8 @@ ghost use Rattle.std.specs.Prelude.{◌≡◌};
 ghost use Rattle.graph_forest.specs.Nodes.{plain_node};
 ghost use Rattle.ast_layer.specs.Source.{file_of};
 ghost use Rattle.ast_layer.specs.Nodes.{block_node, call_node, global_block, global_method};
-ghost use Rattle.ast_layer.specs.Nodes.{global_return, method_node, operand_node, return_node};
+ghost use Rattle.ast_layer.specs.Nodes.{global_return, identifier_node, literal_node, method_node};
+ghost use Rattle.ast_layer.specs.Nodes.{operand_node, return_node};
 
 use crate::operator::name_of;
 use crate::source::Source;
@@ -85,23 +86,37 @@ impl Source {
         ensures { plain_node result ≡ operand_node (file_of self.now) operand.now rank }
     {
         match &operand.base.form {
-            BaseForm::Name(token) => NewNode {
-                name: Some(self.spelling(Some(*token))),
-                line_number: Some(self.line(Some(*token))),
-                order: Some(rank.order),
-                argument_index: rank.argument_index(),
-                ..NewNode::bare(Label::Identifier)
-            },
-            BaseForm::Literal(tokens) => {
-                let first = tokens.items().first().copied();
-                NewNode {
-                    code: Some(self.spelling(first)),
-                    line_number: Some(self.line(first)),
-                    order: Some(rank.order),
-                    argument_index: rank.argument_index(),
-                    ..NewNode::bare(Label::Literal)
-                }
-            }
+            BaseForm::Name(token) => self.identifier(*token, rank),
+            BaseForm::Literal(tokens) => self.literal(tokens.items().first().copied(), rank),
+            BaseForm::Group(_, marks) => self.literal(marks.items().first().copied(), rank),
+            BaseForm::Compound(_, _, marks) => self.literal(marks.items().first().copied(), rank),
+            BaseForm::SizeType(size, ..) => self.literal(Some(*size), rank),
+        }
+    }
+
+    /// The IDENTIFIER of a name.
+    fn identifier(&self, token: u32, rank: Rank) -> NewNode<'_>
+        ensures { plain_node result ≡ identifier_node (file_of self.now) token rank }
+    {
+        NewNode {
+            name: Some(self.spelling(Some(token))),
+            line_number: Some(self.line(Some(token))),
+            order: Some(rank.order),
+            argument_index: rank.argument_index(),
+            ..NewNode::bare(Label::Identifier)
+        }
+    }
+
+    /// The LITERAL of a literal's first token.
+    fn literal(&self, token: Option<u32>, rank: Rank) -> NewNode<'_>
+        ensures { plain_node result ≡ literal_node (file_of self.now) token rank }
+    {
+        NewNode {
+            code: Some(self.spelling(token)),
+            line_number: Some(self.line(token)),
+            order: Some(rank.order),
+            argument_index: rank.argument_index(),
+            ..NewNode::bare(Label::Literal)
         }
     }
 }

@@ -8,8 +8,8 @@ use crate::{AstPass, Source};
 use c_lexer::laws::law_within_the_text;
 use c_lexer::{SourceText, lex};
 use c_tree::{
-    Assign, Binary, Block, BlockItem, Cond, Declarator, Expr, Item, Prefixed, Specs, Stmt,
-    StmtKind, Unit, list_of_one, two_marks,
+    Assign, Block, BlockItem, Cond, Declarator, Expr, Item, Prefixed, Specs, Stmt, Unit,
+    list_of_one, two_marks,
 };
 use cpg_schema::{Caps, EdgeKind, Key, Label};
 use graph_delta::{Pass, apply};
@@ -27,26 +27,17 @@ const TEXT: &[u8] = b"# 7 \"x.c\"\n__extension__ int f(void)\n{a=b+1;}";
 
 /// The tree of `TEXT`, by the numbers of the kept tokens.
 fn one_function(alloc: Global) -> Result<Unit, AllocError> {
+    let rest = list_of_one(alloc, (9, Prefixed::literal(alloc, 10)?))?;
     let assign = Assign {
-        targets: list_of_one(alloc, (Prefixed::name(6), 7))?,
-        value: Cond {
-            last: Binary {
-                first: Prefixed::name(8),
-                rest: list_of_one(alloc, (9, Prefixed::literal(alloc, 10)?))?,
-            },
-        },
+        targets: list_of_one(alloc, (Prefixed::name(alloc, 6), 7))?,
+        value: Cond::unconditional(alloc, Prefixed::name(alloc, 8), rest),
     };
-    let kind = StmtKind::Value {
-        expr: Expr {
-            parts: list_of_one(alloc, assign)?,
-        },
-        marks: list_of_one(alloc, 11)?,
-    };
+    let stmt = Stmt::expression(alloc, Expr::sole(alloc, assign)?, 11)?;
     let define = Item::Define {
         specs: Specs::basic(alloc, 0)?,
         declarator: Declarator::parameterless(alloc, 1, 2, 3, 4)?,
         body: Block {
-            items: list_of_one(alloc, BlockItem::Do(Stmt { kind }))?,
+            items: list_of_one(alloc, BlockItem::Do(stmt))?,
             marks: two_marks(alloc, 5, 12)?,
         },
     };

@@ -8,24 +8,21 @@ use Rattle.c_lexer.specs.declared.mark.TheConstants.{MARK_LEFT_PAREN, MARK_RIGHT
 use Rattle.c_lexer.specs.declared.mark.TheConstants.{MARK_LEFT_BRACE, MARK_RIGHT_BRACE}
 use Rattle.c_lexer.specs.declared.mark.TheConstants.{MARK_SEMICOLON, MARK_EQUAL}
 use Rattle.c_tree.specs.Fits.{Spells}
-use Rattle.c_tree.specs.Forms.{basic, parameterless, name_operand, literal_operand}
+use Rattle.c_tree.specs.Forms.{basic, parameterless, name_operand, literal_operand, unconditional}
+use Rattle.c_tree.specs.Forms.{assigned, sole, expression_stmt}
 use Rattle.c_tree.specs.declared.tree.Unit.{Unit}
 use Rattle.c_tree.specs.declared.tree.Assign.{Assign}
 use Rattle.c_tree.specs.declared.tree.Block.{Block}
 use Rattle.c_tree.specs.declared.tree.Item.TheVariants as item
 use Rattle.c_tree.specs.declared.tree.BlockItem.TheVariants as block_item
-use Rattle.c_tree.specs.declared.tree.StmtKind.TheVariants as stmt_kind
 use Rattle.c_tree.proofs.Spellings.{spelling_laws}
 
 abbrev pub assign : Assign
-assign = record {
-  targets = (name_operand 6, 7) ∷ [];
-  value = record { last = record { first = literal_operand 8; rest = [] } };
-}
+assign = assigned ((name_operand 6, 7) ∷ []) (unconditional (literal_operand 8) [])
 
 abbrev pub body : Block
 body = record {
-  items = block_item.Do (record { kind = stmt_kind.Value (record { parts = assign ∷ [] }) (9 ∷ []) }) ∷ [];
+  items = block_item.Do (expression_stmt (sole assign) 9) ∷ [];
   marks = 5 ∷ 10 ∷ [];
 }
 

@@ -2,7 +2,7 @@
 
 use Rattle.std.proofs.Common.{◌≡◌, ◌+◌, List, [], ◌∷◌, ◌++◌, refl, arith, append_assoc, append-nil}
 use Rattle.c_tree.specs.Walk.{part_spelling, part_weight, pending_spelling, pending_weight}
-use Rattle.c_tree.specs.declared.pending.Part.{Part}
+use Rattle.c_tree.specs.declared.part.Part.{Part}
 
 pub pending_spelling-push : (parts : List Part) (part : Part) →
     pending_spelling (parts ++ part ∷ []) ≡ part_spelling part ++ pending_spelling parts

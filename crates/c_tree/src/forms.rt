@@ -1,9 +1,13 @@
 //! Forms of which a tree has many.
 
 ghost use Rattle.std.specs.Prelude.{◌≡◌, [], ◌∷◌, IfOk};
-ghost use Rattle.c_tree.specs.Forms.{abstract, basic, literal_operand, name_operand, parameterless};
+ghost use Rattle.c_tree.specs.Forms.{abstract, assigned, basic, expression_stmt, literal_operand};
+ghost use Rattle.c_tree.specs.Forms.{name_operand, parameterless, sole, unconditional};
 
-use crate::tree::{Base, BaseForm, Core, Declarator, Param, Prefixed, Spec, Specs, Suffix};
+use crate::tree::{
+    Assign, Base, BaseForm, Binary, Cond, Core, Declarator, Expr, Param, Prefixed, Spec, Specs,
+    Stmt, StmtKind, Suffix,
+};
 use joern_io::List;
 use std::alloc::{AllocError, Global};
 
@@ -43,8 +47,11 @@ impl Declarator {
         ensures { result ≡ abstract }
     {
         Declarator {
+            pointers: List::new(alloc),
             core: Core::Empty,
             suffixes: List::new(alloc),
+            width: None,
+            marks: List::new(alloc),
         }
     }
 
@@ -64,23 +71,29 @@ impl Declarator {
         };
         let params = Suffix::Params {
             list: list_of_one(alloc, unnamed)?,
+            dots: None,
             marks: two_marks(alloc, left, right)?,
         };
         Ok(Declarator {
+            pointers: List::new(alloc),
             core: Core::Name(name),
             suffixes: list_of_one(alloc, params)?,
+            width: None,
+            marks: List::new(alloc),
         })
     }
 }
 
 impl Prefixed {
     /// An operand that is a name (6.5.1p2).
-    pub fn name(token: u32) -> Prefixed
+    pub fn name(alloc: Global, token: u32) -> Prefixed
         ensures { result ≡ name_operand token }
     {
         Prefixed {
+            prefixes: List::new(alloc),
             base: Base {
                 form: BaseForm::Name(token),
+                suffixes: List::new(alloc),
             },
         }
     }
@@ -90,9 +103,47 @@ impl Prefixed {
         ensures { IfOk result (λ operand. operand ≡ literal_operand token) }
     {
         Ok(Prefixed {
+            prefixes: List::new(alloc),
             base: Base {
                 form: BaseForm::Literal(list_of_one(alloc, token)?),
+                suffixes: List::new(alloc),
             },
+        })
+    }
+}
+
+impl Cond {
+    /// Operands joined by binary operators, without a condition (6.5.15).
+    pub fn unconditional(alloc: Global, first: Prefixed, rest: List<(u32, Prefixed)>) -> Cond
+        ensures { result ≡ unconditional first rest }
+    {
+        Cond {
+            arms: List::new(alloc),
+            last: Binary { first, rest },
+        }
+    }
+}
+
+impl Expr {
+    /// An expression of one part (6.5.17).
+    pub fn sole(alloc: Global, part: Assign) -> Result<Expr, AllocError>
+        ensures { IfOk result (λ expr. expr ≡ sole part) }
+    {
+        Ok(Expr {
+            parts: list_of_one(alloc, part)?,
+            marks: List::new(alloc),
+        })
+    }
+}
+
+impl Stmt {
+    /// An expression statement without labels, by its expression and `;` (6.8.3).
+    pub fn expression(alloc: Global, expr: Expr, semicolon: u32) -> Result<Stmt, AllocError>
+        ensures { IfOk result (λ stmt. stmt ≡ expression_stmt expr semicolon) }
+    {
+        Ok(Stmt {
+            labels: List::new(alloc),
+            kind: StmtKind::Value(expr, list_of_one(alloc, semicolon)?),
         })
     }
 }

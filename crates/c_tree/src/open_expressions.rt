@@ -1,42 +1,33 @@
 //! One level of an expression.
 
-ghost use Rattle.std.specs.Prelude.{◌≡◌, ◌+◌, ◌<◌, ◌++◌, map, OnOk};
-ghost use Rattle.std.specs.List.{flat_map};
-ghost use Rattle.c_tree.specs.Spell.{wanted, base_form_spelling, base_spelling, prefixed_spelling};
-ghost use Rattle.c_tree.specs.Spell.{operand_spelling, binary_spelling, cond_spelling};
-ghost use Rattle.c_tree.specs.Spell.{target_spelling, assign_spelling, expr_spelling};
-ghost use Rattle.c_tree.specs.Walk.{listed, texts_weight, base_form_weight, base_weight};
-ghost use Rattle.c_tree.specs.Walk.{prefixed_weight, operand_weight, binary_weight, cond_weight};
-ghost use Rattle.c_tree.specs.Walk.{target_weight, assign_weight, expr_weight};
+ghost use Rattle.std.specs.Prelude.{◌≡◌, ◌+◌, ◌<◌, ◌≤◌, ◌++◌, length, OnOk};
+ghost use Rattle.c_tree.specs.Spell.{arm_spelling, assign_spelling, base_form_spelling};
+ghost use Rattle.c_tree.specs.Spell.{base_spelling, binary_spelling, cond_spelling};
+ghost use Rattle.c_tree.specs.Spell.{expr_spelling, in_parens, literal_spelling};
+ghost use Rattle.c_tree.specs.Spell.{operand_spelling, post_spelling, prefix_spelling};
+ghost use Rattle.c_tree.specs.Spell.{prefixed_spelling, target_spelling};
+ghost use Rattle.c_tree.specs.Weights.{arm_weight, assign_weight, base_form_weight, base_weight};
+ghost use Rattle.c_tree.specs.Weights.{binary_weight, cond_weight, expr_weight};
+ghost use Rattle.c_tree.specs.Weights.{operand_weight, post_weight, prefix_weight};
+ghost use Rattle.c_tree.specs.Weights.{prefixed_weight, target_weight};
 
-use crate::pending::{Part, Pending};
+use crate::pending::{Pending, past, past_commas};
 use crate::symbol::{Slot, Want};
-use crate::tree::{Assign, Base, BaseForm, Binary, Cond, Expr, Prefixed};
+use crate::tree::{Arm, Assign, Base, BaseForm, Binary, Cond, Expr, Post, Prefix, Prefixed};
+use c_lexer::mark::{
+    MARK_ARROW, MARK_COLON, MARK_DOT, MARK_LEFT_BRACKET, MARK_LEFT_PAREN, MARK_QUESTION,
+    MARK_RIGHT_BRACKET, MARK_RIGHT_PAREN,
+};
 use std::alloc::AllocError;
 
 impl<'t> Pending<'t> {
-    /// The parts, one by one.
+    /// The parts, with a comma between two of them.
     #[tactic(auto, using(crate::proofs::Opening::opens_expression))]
     pub(crate) fn open_expr(&mut self, expr: &'t Expr) -> Result<(), AllocError>
         ensures spells { OnOk result (self.new.0 ≡ expr_spelling expr.now ++ self.old.0) }
         ensures falls { OnOk result (self.new.1 < expr_weight expr.now + self.old.1) }
     {
-        self.push(Part::Assigns(expr.parts.items()))
-    }
-
-    /// The first part, and then the others.
-    #[tactic(auto, using(crate::proofs::Opening::opens_list))]
-    pub(crate) fn open_assigns(&mut self, assigns: &'t [Assign]) -> Result<(), AllocError>
-        ensures spells { OnOk result
-            (self.new.0 ≡ flat_map assign_spelling assigns.now ++ self.old.0) }
-        ensures falls { OnOk result
-            (self.new.1 < listed (map assign_weight assigns.now) + self.old.1) }
-    {
-        if let Some((first, rest)) = assigns.split_first() {
-            self.push(Part::Assigns(rest))?;
-            self.push(Part::Assign(first))?;
-        }
-        Ok(())
+        self.push_list(expr.parts.items(), expr.marks.items())
     }
 
     /// The targets, and then the value.
@@ -45,108 +36,172 @@ impl<'t> Pending<'t> {
         ensures spells { OnOk result (self.new.0 ≡ assign_spelling assign.now ++ self.old.0) }
         ensures falls { OnOk result (self.new.1 < assign_weight assign.now + self.old.1) }
     {
-        self.push(Part::Cond(&assign.value))?;
-        self.push(Part::Targets(assign.targets.items()))
+        self.open_cond(&assign.value)?;
+        self.push_each(assign.targets.items())
     }
 
-    /// The first target and its operator, and then the others.
+    /// What is assigned to, and then the operator.
     #[tactic(auto, using(crate::proofs::Opening::opens_expression))]
-    pub(crate) fn open_targets(&mut self, targets: &'t [(Prefixed, u32)]) -> Result<(), AllocError>
-        ensures spells { OnOk result
-            (self.new.0 ≡ flat_map target_spelling targets.now ++ self.old.0) }
-        ensures falls { OnOk result
-            (self.new.1 < listed (map target_weight targets.now) + self.old.1) }
+    pub(crate) fn open_target(&mut self, target: &'t (Prefixed, u32)) -> Result<(), AllocError>
+        ensures spells { OnOk result (self.new.0 ≡ target_spelling target.now ++ self.old.0) }
+        ensures falls { OnOk result (self.new.1 < target_weight target.now + self.old.1) }
     {
-        if let Some((first, rest)) = targets.split_first() {
-            self.push(Part::Targets(rest))?;
-            self.push_wanted(first.1, Want::Among(Slot::AssignOp))?;
-            self.push(Part::Prefixed(&first.0))?;
-        }
-        Ok(())
+        self.push_token(target.1, Want::Among(Slot::AssignOp))?;
+        self.open_prefixed(&target.0)
     }
 
-    /// The operands.
+    /// The conditions, and then what is taken last.
     #[tactic(auto, using(crate::proofs::Opening::opens_expression))]
-    pub(crate) fn open_cond(&mut self, cond: &'t Cond) -> Result<(), AllocError>
+    fn open_cond(&mut self, cond: &'t Cond) -> Result<(), AllocError>
         ensures spells { OnOk result (self.new.0 ≡ cond_spelling cond.now ++ self.old.0) }
         ensures falls { OnOk result (self.new.1 < cond_weight cond.now + self.old.1) }
     {
-        self.push(Part::Binary(&cond.last))
+        self.open_binary(&cond.last)?;
+        self.push_each(cond.arms.items())
+    }
+
+    /// The condition, `?`, what is taken where it holds, and `:`.
+    #[tactic(auto, using(crate::proofs::Opening::opens_expression))]
+    pub(crate) fn open_arm(&mut self, arm: &'t Arm) -> Result<(), AllocError>
+        ensures spells { OnOk result (self.new.0 ≡ arm_spelling arm.now ++ self.old.0) }
+        ensures falls { OnOk result (self.new.1 < arm_weight arm.now + self.old.1) }
+    {
+        let marks = arm.marks.items();
+        self.push_mark(marks, 1, MARK_COLON)?;
+        self.open_expr(&arm.then)?;
+        self.push_mark(marks, 0, MARK_QUESTION)?;
+        self.open_binary(&arm.test)
     }
 
     /// The first operand, and then the others.
     #[tactic(auto, using(crate::proofs::Opening::opens_expression))]
-    pub(crate) fn open_binary(&mut self, binary: &'t Binary) -> Result<(), AllocError>
+    fn open_binary(&mut self, binary: &'t Binary) -> Result<(), AllocError>
         ensures spells { OnOk result (self.new.0 ≡ binary_spelling binary.now ++ self.old.0) }
         ensures falls { OnOk result (self.new.1 < binary_weight binary.now + self.old.1) }
     {
-        self.push(Part::Operands(binary.rest.items()))?;
-        self.push(Part::Prefixed(&binary.first))
+        self.push_each(binary.rest.items())?;
+        self.open_prefixed(&binary.first)
     }
 
-    /// The first operator and its right operand, and then the others.
+    /// The operator, and then its right operand.
     #[tactic(auto, using(crate::proofs::Opening::opens_expression))]
-    pub(crate) fn open_operands(
-        &mut self,
-        operands: &'t [(u32, Prefixed)],
-    ) -> Result<(), AllocError>
-        ensures spells { OnOk result
-            (self.new.0 ≡ flat_map operand_spelling operands.now ++ self.old.0) }
-        ensures falls { OnOk result
-            (self.new.1 < listed (map operand_weight operands.now) + self.old.1) }
+    pub(crate) fn open_operand(&mut self, operand: &'t (u32, Prefixed)) -> Result<(), AllocError>
+        ensures spells { OnOk result (self.new.0 ≡ operand_spelling operand.now ++ self.old.0) }
+        ensures falls { OnOk result (self.new.1 < operand_weight operand.now + self.old.1) }
     {
-        if let Some((first, rest)) = operands.split_first() {
-            self.push(Part::Operands(rest))?;
-            self.push(Part::Prefixed(&first.1))?;
-            self.push_wanted(first.0, Want::Among(Slot::BinaryOp))?;
-        }
-        Ok(())
+        self.open_prefixed(&operand.1)?;
+        self.push_token(operand.0, Want::Among(Slot::BinaryOp))
     }
 
-    /// The operand without operators.
+    /// The operators and casts, and then the operand.
     #[tactic(auto, using(crate::proofs::Opening::opens_expression))]
-    pub(crate) fn open_prefixed(&mut self, prefixed: &'t Prefixed) -> Result<(), AllocError>
+    fn open_prefixed(&mut self, prefixed: &'t Prefixed) -> Result<(), AllocError>
         ensures spells { OnOk result (self.new.0 ≡ prefixed_spelling prefixed.now ++ self.old.0) }
         ensures falls { OnOk result (self.new.1 < prefixed_weight prefixed.now + self.old.1) }
     {
-        self.push(Part::Base(&prefixed.base))
+        self.open_base(&prefixed.base)?;
+        self.push_each(prefixed.prefixes.items())
     }
 
-    /// The operand without suffixes.
+    /// An operator, or a type name in parentheses.
     #[tactic(auto, using(crate::proofs::Opening::opens_expression))]
-    pub(crate) fn open_base(&mut self, base: &'t Base) -> Result<(), AllocError>
+    pub(crate) fn open_prefix(&mut self, prefix: &'t Prefix) -> Result<(), AllocError>
+        ensures spells { OnOk result (self.new.0 ≡ prefix_spelling prefix.now ++ self.old.0) }
+        ensures falls { OnOk result (self.new.1 < prefix_weight prefix.now + self.old.1) }
+    {
+        match prefix {
+            Prefix::Op(token) => self.push_token(*token, Want::Among(Slot::PrefixOp)),
+            Prefix::Cast(type_name, marks) => {
+                self.open_type_in_parens(type_name.get(), marks.items())
+            }
+        }
+    }
+
+    /// What the suffixes are applied to, and then the suffixes.
+    #[tactic(auto, using(crate::proofs::Opening::opens_expression))]
+    fn open_base(&mut self, base: &'t Base) -> Result<(), AllocError>
         ensures spells { OnOk result (self.new.0 ≡ base_spelling base.now ++ self.old.0) }
         ensures falls { OnOk result (self.new.1 < base_weight base.now + self.old.1) }
     {
-        self.push(Part::BaseForm(&base.form))
+        self.push_each(base.suffixes.items())?;
+        self.open_base_form(&base.form)
     }
 
-    /// The name, or the tokens of the literal.
+    /// A name, a literal, an expression in parentheses, a compound literal, or the size or the
+    /// alignment of a type.
     #[tactic(auto, using(crate::proofs::Opening::opens_expression))]
-    pub(crate) fn open_base_form(&mut self, form: &'t BaseForm) -> Result<(), AllocError>
+    fn open_base_form(&mut self, form: &'t BaseForm) -> Result<(), AllocError>
         ensures spells { OnOk result (self.new.0 ≡ base_form_spelling form.now ++ self.old.0) }
         ensures falls { OnOk result (self.new.1 < base_form_weight form.now + self.old.1) }
     {
         match form {
-            BaseForm::Name(token) => self.push_wanted(*token, Want::Word),
-            BaseForm::Literal(tokens) => match tokens.items() {
-                [token] => self.push_wanted(*token, Want::Among(Slot::Literal)),
-                tokens => self.push(Part::Texts(tokens)),
-            },
+            BaseForm::Name(token) => self.push_token(*token, Want::Word),
+            BaseForm::Literal(tokens) => self.open_literal(tokens.items()),
+            BaseForm::Group(expr, marks) => self.open_parens(expr.get(), marks.items()),
+            BaseForm::Compound(type_name, list, marks) => {
+                let marks = marks.items();
+                self.push_braced(list.items(), past(marks, 2))?;
+                self.open_type_in_parens(type_name.get(), marks)
+            }
+            BaseForm::SizeType(size, type_name, marks) => {
+                self.open_type_in_parens(type_name.get(), marks.items())?;
+                self.push_token(*size, Want::Among(Slot::SizeKey))
+            }
         }
     }
 
-    /// The first string literal, and then the others.
-    #[tactic(auto, using(crate::proofs::Opening::opens_list))]
-    pub(crate) fn open_texts(&mut self, tokens: &'t [u32]) -> Result<(), AllocError>
-        ensures spells { OnOk result
-            (self.new.0 ≡ flat_map (λ t. wanted t Want.Text) tokens.now ++ self.old.0) }
-        ensures falls { OnOk result (self.new.1 < texts_weight tokens.now + self.old.1) }
+    /// The token of a constant or a string, or string literals.
+    fn open_literal(&mut self, tokens: &[u32]) -> Result<(), AllocError>
+        ensures spells { OnOk result (self.new.0 ≡ literal_spelling tokens.now ++ self.old.0) }
+        ensures weighs { OnOk result (self.new.1 ≤ length tokens.now + self.old.1) }
     {
-        if let Some((first, rest)) = tokens.split_first() {
-            self.push(Part::Texts(rest))?;
-            self.push_wanted(*first, Want::Text)?;
+        match tokens {
+            [token] => self.push_token(*token, Want::Among(Slot::Literal)),
+            tokens => self.push_tokens(tokens, Want::Text),
         }
-        Ok(())
+    }
+
+    /// An expression in parentheses.
+    pub(crate) fn open_parens(&mut self, expr: &'t Expr, marks: &[u32]) -> Result<(), AllocError>
+        ensures spells { OnOk result
+            (self.new.0 ≡ in_parens (expr_spelling expr.now) marks.now ++ self.old.0) }
+        ensures falls { OnOk result (self.new.1 < 2 + (expr_weight expr.now + self.old.1)) }
+    {
+        self.push_mark(marks, 1, MARK_RIGHT_PAREN)?;
+        self.open_expr(expr)?;
+        self.push_mark(marks, 0, MARK_LEFT_PAREN)
+    }
+
+    /// A subscript, the arguments of a call, a member, or `++` or `--`.
+    #[tactic(auto, using(crate::proofs::Opening::opens_expression))]
+    pub(crate) fn open_post(&mut self, post: &'t Post) -> Result<(), AllocError>
+        ensures spells { OnOk result (self.new.0 ≡ post_spelling post.now ++ self.old.0) }
+        ensures falls { OnOk result (self.new.1 < post_weight post.now + self.old.1) }
+    {
+        match post {
+            Post::Index(expr, marks) => {
+                let marks = marks.items();
+                self.push_mark(marks, 1, MARK_RIGHT_BRACKET)?;
+                self.open_expr(expr)?;
+                self.push_mark(marks, 0, MARK_LEFT_BRACKET)
+            }
+            Post::Call(arguments, marks) => {
+                let marks = marks.items();
+                let arguments = arguments.items();
+                let inside = past(marks, 1);
+                self.push_mark(past_commas(inside, arguments.len()), 0, MARK_RIGHT_PAREN)?;
+                self.push_list(arguments, inside)?;
+                self.push_mark(marks, 0, MARK_LEFT_PAREN)
+            }
+            Post::Dot(name, marks) => {
+                self.push_token(*name, Want::Word)?;
+                self.push_mark(marks.items(), 0, MARK_DOT)
+            }
+            Post::Arrow(name, marks) => {
+                self.push_token(*name, Want::Word)?;
+                self.push_mark(marks.items(), 0, MARK_ARROW)
+            }
+            Post::Step(token) => self.push_token(*token, Want::Among(Slot::Step)),
+        }
     }
 }

@@ -8,27 +8,21 @@ use Rattle.c_lexer.specs.declared.token.Kind.TheVariants.{Word, Key, Number, Mar
 use Rattle.c_lexer.specs.declared.token.Token.{Token}
 use Rattle.c_lexer.specs.declared.mark.TheConstants.{MARK_RIGHT_BRACE, MARK_LEFT_BRACE, MARK_LEFT_PAREN, MARK_RIGHT_PAREN, MARK_PLUS, MARK_EQUAL, MARK_SEMICOLON}
 use Rattle.c_lexer.specs.declared.keyword.TheConstants.{KEY_INT, KEY_VOID}
-use Rattle.c_tree.specs.Fits.{Fits, kinds_of}
+use Rattle.c_tree.specs.Fits.{Fits, FitFrom, kinds_of}
 use Rattle.c_tree.specs.declared.symbol.Want.{Want}
 use Rattle.c_tree.specs.declared.symbol.Want.TheVariants as want
 use Rattle.c_tree.specs.declared.symbol.Slot.TheVariants as slot
 use Rattle.c_tree.specs.Forms.{basic, parameterless}
-use Rattle.c_tree.specs.Spell.{Symbols, wanted, cond_spelling, stmt_spelling, prefixed_spelling, base_form_spelling, target_spelling, operand_spelling, binary_spelling, assign_spelling, expr_spelling, stmt_kind_spelling, block_item_spelling, item_spelling, unit_spelling}
+use Rattle.c_tree.specs.Spell.{Symbols, wanted, prefixed_spelling, target_spelling, operand_spelling, block_item_spelling, item_spelling}
 use Rattle.c_tree.specs.declared.tree.Unit.{Unit}
 use Rattle.c_tree.specs.declared.tree.Item.{Item}
-use Rattle.c_tree.specs.declared.tree.Item.TheVariants.{Define}
+use Rattle.c_tree.specs.declared.tree.Item.TheVariants.{Declare, Define}
 use Rattle.c_tree.specs.declared.tree.Specs.{Specs}
 use Rattle.c_tree.specs.declared.tree.Declarator.{Declarator}
 use Rattle.c_tree.specs.declared.tree.BlockItem.{BlockItem}
-use Rattle.c_tree.specs.declared.tree.BlockItem.TheVariants.{Do}
-use Rattle.c_tree.specs.declared.tree.StmtKind.{StmtKind}
-use Rattle.c_tree.specs.declared.tree.StmtKind.TheVariants.{Value}
-use Rattle.c_tree.specs.declared.tree.Assign.{Assign}
 use Rattle.c_tree.specs.declared.tree.Prefixed.{Prefixed}
-use Rattle.c_tree.specs.declared.tree.BaseForm.{BaseForm}
-use Rattle.c_tree.specs.declared.tree.BaseForm.TheVariants as form
-use Rattle.c_tree.proofs.Spellings.{spelling_laws}
-use Rattle.first_grammar.specs.FirstUnit.{HasKind, IsOperandForm, IsOperand, IsTarget, IsAddend, IsSumAssigned, IsEndedSum, IsStatement, IsFunction, IsFirstUnit}
+use Rattle.c_tree.proofs.Formed.{name_operand_spelling, literal_operand_spelling, statement_spelling, unit_items}
+use Rattle.first_grammar.specs.FirstUnit.{HasKind, IsOperand, IsTarget, IsAddend, IsStatement, IsFunction, IsFirstUnit}
 use Rattle.first_grammar.specs.Rest.{Rest, IsAt, numbered}
 use Rattle.first_grammar.specs.Grammar.{Runs, OperandAt, TargetAt, AddendAt, statement, StatementAt, body, function, FunctionAt, ItemsAt}
 use Rattle.first_grammar.proofs.Plain.{plain, plain_spelling, after_int, after_name, after_left, after_void, after_right, after_left_brace}
@@ -58,30 +52,6 @@ runs_in kinds S P sp each (x ∷ xs) a b all g h =
       runs_in kinds S P sp each xs cut.0 b (All-tail P x xs all) (stands_agrees kinds (sp x) a cut.0 cut.1 g) cut.2,
     )
 
--- ---- Operands
-
-form_in : (kinds : List Kind) (f : BaseForm) (a b : Rest) → IsOperandForm kinds f → Agrees kinds a →
-    Stands (base_form_spelling f) a b → OperandAt (record { base = record { form = f } }) a b
-unfolding base_form_spelling
-form_in kinds (form.Name n) [] b is g h = absurd h
-form_in kinds (form.Name n) (t ∷ a) b is g h =
-    inl (n, token_is n t.0 Word t.1 a b h.0 h.1 h.2, refl)
-form_in kinds (form.Literal tokens) a b is g h =
-    let spelled = subst (λ (v : List ℕ). Stands (base_form_spelling (form.Literal v)) a b) is.1 h in
-    let one : (a : Rest) → Agrees kinds a → Stands (base_form_spelling (form.Literal (is.0 ∷ []))) a b →
-    a ≡ (is.0, Number) ∷ b =
-    λ a. elim a as (λ a. Agrees kinds a → Stands (base_form_spelling (form.Literal (is.0 ∷ []))) a b →
-    a ≡ (is.0, Number) ∷ b) [
-      | [] ↦ λ g h. absurd h
-      | t ∷ a ↦ λ g h. token_is is.0 t.0 Number t.1 a b h.0
-          (sym (same_kind kinds is.0 t.0 Number t.1 is.2 g.0 h.0)) h.2
-    ] in
-    inr (is.0, one a g spelled, ap (λ (v : List ℕ). record { base = record { form = form.Literal v } }) is.1)
-
-operand_in : (kinds : List Kind) (p : Prefixed) (a b : Rest) → IsOperand kinds p → Agrees kinds a →
-    Stands (prefixed_spelling p) a b → OperandAt p a b
-operand_in kinds p a b is g h = form_in kinds p.base.form a b is g (simp spelling_laws at h)
-
 -- ---- One token
 
 fixed_in : (n : ℕ) (w : Want) (kind : Kind) → ((k : Kind) → Fits w k → k ≡ kind) → (a b : Rest) →
@@ -95,11 +65,23 @@ among_in kinds n w kind is [] b g h = absurd h
 among_in kinds n w kind is (t ∷ a) b g h =
     token_is n t.0 kind t.1 a b h.0 (sym (same_kind kinds n t.0 kind t.1 is g.0 h.0)) h.2
 
+-- ---- Operands
+
+operand_in : (kinds : List Kind) (p : Prefixed) (a b : Rest) → IsOperand kinds p → Agrees kinds a →
+    Stands (prefixed_spelling p) a b → OperandAt p a b
+operand_in kinds p a b (inl is) g h =
+    let spelled = subst (λ (v : Prefixed). Stands (prefixed_spelling v) a b) is.1 h in
+    let here = subst (λ (s : Symbols). Stands s a b) (name_operand_spelling is.0) spelled in
+    inl (is.0, fixed_in is.0 want.Word Word (λ k e. e) a b here, is.1)
+operand_in kinds p a b (inr is) g h =
+    let spelled = subst (λ (v : Prefixed). Stands (prefixed_spelling v) a b) is.1 h in
+    let here = subst (λ (s : Symbols). Stands s a b) (literal_operand_spelling is.0) spelled in
+    inr (is.0, among_in kinds is.0 (want.Among slot.Literal) Number is.2 a b g here, is.1)
+
 -- ---- Statements
 
 target_in : (kinds : List Kind) (t : Prefixed × ℕ) (a b : Rest) → IsTarget kinds t → Agrees kinds a →
     Stands (target_spelling t) a b → TargetAt t a b
-unfolding target_spelling
 target_in kinds t a b is g h =
     let cut = stands_split (prefixed_spelling t.0) (wanted t.1 (want.Among slot.AssignOp)) a b h in
     let mark = among_in kinds t.1 (want.Among slot.AssignOp) (Mark MARK_EQUAL) is.1 cut.0 b
@@ -109,7 +91,6 @@ target_in kinds t a b is g h =
 
 addend_in : (kinds : List Kind) (o : ℕ × Prefixed) (a b : Rest) → IsAddend kinds o → Agrees kinds a →
     Stands (operand_spelling o) a b → AddendAt o a b
-unfolding operand_spelling
 addend_in kinds o a b is g h =
     let plus = wanted o.0 (want.Among slot.BinaryOp) in
     let cut = stands_split plus (prefixed_spelling o.1) a b h in (
@@ -129,71 +110,51 @@ pub no_equal : (xs : List (ℕ × Prefixed)) (r b : Rest) (m : ℕ) → Runs Add
 no_equal [] r b m h at = let e = is_at_number r b m MARK_SEMICOLON MARK_EQUAL h at in absurd (omega (arith, e))
 no_equal (x ∷ xs) r b m h at = let e = is_at_number r h.1.0 x.0 MARK_PLUS MARK_EQUAL h.1.1 at in absurd (omega (arith, e))
 
-sum_in : (kinds : List Kind) (part : Assign) (m : ℕ) (a b : Rest) → IsSumAssigned kinds part → Agrees kinds a →
-    Stands (stmt_kind_spelling (Value (record { parts = part ∷ [] }) (m ∷ []))) a b →
-    StatementAt (Do (record { kind = Value (record { parts = part ∷ [] }) (m ∷ []) })) a b
-unfolding stmt_kind_spelling expr_spelling assign_spelling cond_spelling binary_spelling statement
-sum_in kinds part m a b is g h =
-    let value = part.value.last in
-    let targets = flat_map target_spelling part.targets in
-    let first = prefixed_spelling value.first in
-    let ended = stands_split (assign_spelling part ++ []) (wanted m (want.Mark MARK_SEMICOLON)) a b h in
-    let sole = stands_split (assign_spelling part) [] a ended.0 ended.1 in
-    let cut = stands_split targets (cond_spelling part.value) a sole.0 sole.1 in
-    let begun = stands_split first (flat_map operand_spelling value.rest) cut.0 sole.0 cut.2 in
+statement_in : (kinds : List Kind) (i : BlockItem) (a b : Rest) → IsStatement kinds i → Agrees kinds a →
+    Stands (block_item_spelling i) a b → StatementAt i a b
+unfolding statement
+statement_in kinds i a b is g h =
+    let end = wanted is.semicolon (want.Mark MARK_SEMICOLON) in
+    let targets = flat_map target_spelling is.targets in
+    let added = flat_map operand_spelling is.rest in
+    let first = prefixed_spelling is.first in
+    let spelled = subst (λ (s : Symbols). Stands s a b) (statement_spelling is.targets is.first is.rest is.semicolon)
+    (subst (λ (v : BlockItem). Stands (block_item_spelling v) a b) is.is h) in
+    let cut = stands_split targets (first ++ (added ++ end)) a b spelled in
+    let begun = stands_split first (added ++ end) cut.0 b cut.2 in
+    let ended = stands_split added end begun.0 b begun.2 in
     let g_cut = stands_agrees kinds targets a cut.0 cut.1 g in
     let g_begun = stands_agrees kinds first cut.0 begun.0 begun.1 g_cut in
-    let mark = fixed_in m (want.Mark MARK_SEMICOLON) (Mark MARK_SEMICOLON) (λ k e. e) ended.0 b ended.2 in
-    let rest = subst (λ (r : Rest). Runs AddendAt value.rest begun.0 r) (sole.2 ∙ mark)
-    (runs_in kinds AddendAt (IsAddend kinds) operand_spelling (addend_in kinds) value.rest begun.0 sole.0
-    is.rest g_begun begun.2) in
+    let mark = fixed_in is.semicolon (want.Mark MARK_SEMICOLON) (Mark MARK_SEMICOLON) (λ k e. e) ended.0 b ended.2 in
+    let rest = subst (λ (r : Rest). Runs AddendAt is.rest begun.0 r) mark
+    (runs_in kinds AddendAt (IsAddend kinds) operand_spelling (addend_in kinds) is.rest begun.0 ended.0
+    is.rest_are g_begun ended.1) in
     record {
-      targets = part.targets;
-      first = value.first;
-      rest = value.rest;
-      semicolon = m;
+      targets = is.targets;
+      first = is.first;
+      rest = is.rest;
+      semicolon = is.semicolon;
       between = begun.0;
       begun = (
         cut.0,
-        runs_in kinds TargetAt (IsTarget kinds) target_spelling (target_in kinds) part.targets a cut.0
-            is.targets g cut.1,
-        operand_in kinds value.first cut.0 begun.0 is.first g_cut begun.1,
-        no_equal value.rest begun.0 b m rest,
+        runs_in kinds TargetAt (IsTarget kinds) target_spelling (target_in kinds) is.targets a cut.0
+            is.targets_are g cut.1,
+        operand_in kinds is.first cut.0 begun.0 is.first_is g_cut begun.1,
+        no_equal is.rest begun.0 b is.semicolon rest,
       );
       addends = (
         rest,
-        λ at. let e = is_at_number ((m, Mark MARK_SEMICOLON) ∷ b) b m MARK_SEMICOLON MARK_PLUS refl at in
+        λ at. let e = is_at_number ((is.semicolon, Mark MARK_SEMICOLON) ∷ b) b is.semicolon MARK_SEMICOLON MARK_PLUS refl at in
             absurd (omega (arith, e)),
       );
-      is = refl;
+      is = is.is;
     }
-
-pub one_of : (xs : List ℕ) → length xs ≡ 1 → (x : ℕ) × (xs ≡ x ∷ [])
-one_of [] h = absurd (omega arith)
-one_of (x ∷ []) h = (x, refl)
-one_of (x ∷ y ∷ xs) h = absurd (omega arith)
 
 pub two_of : (xs : List ℕ) → length xs ≡ 2 → (x : ℕ) × (y : ℕ) × (xs ≡ x ∷ y ∷ [])
 two_of [] h = absurd (omega arith)
 two_of (x ∷ []) h = absurd (omega arith)
 two_of (x ∷ y ∷ []) h = (x, y, refl)
 two_of (x ∷ y ∷ z ∷ xs) h = absurd (omega arith)
-
-kind_in : (kinds : List Kind) (k : StmtKind) (a b : Rest) → IsEndedSum kinds k → Agrees kinds a →
-    Stands (stmt_kind_spelling k) a b → StatementAt (Do (record { kind = k })) a b
-kind_in kinds (Value expr marks) a b is g h =
-    let one = one_of marks is.1 in
-    let e : Value expr marks ≡ Value (record { parts = is.0.part ∷ [] }) (one.0 ∷ []) =
-    ap (λ (v : List Assign). Value (record { parts = v }) marks) is.0.one ∙
-    ap (λ (v : List ℕ). Value (record { parts = is.0.part ∷ [] }) v) one.1 in
-    subst (λ (v : StmtKind). StatementAt (Do (record { kind = v })) a b) (sym e)
-    (sum_in kinds is.0.part one.0 a b is.0.sum g
-    (subst (λ (v : StmtKind). Stands (stmt_kind_spelling v) a b) e h))
-
-statement_in : (kinds : List Kind) (i : BlockItem) (a b : Rest) → IsStatement kinds i → Agrees kinds a →
-    Stands (block_item_spelling i) a b → StatementAt i a b
-unfolding block_item_spelling stmt_spelling
-statement_in kinds (Do stmt) a b is g h = kind_in kinds stmt.kind a b is g h
 
 -- ---- Functions
 
@@ -245,6 +206,7 @@ plain_in kinds t n l v r o c items a b int void each g spelled =
 
 function_in : (kinds : List Kind) (i : Item) (a b : Rest) → IsFunction kinds i → Agrees kinds a →
     Stands (item_spelling i) a b → FunctionAt i a b
+function_in kinds (Declare declaration) a b is g h = absurd is
 function_in kinds (Define specs declarator block) a b is g h =
     let marks = two_of block.marks is.braces in
     let built = parameterless is.name is.left is.void_token is.right in
@@ -262,11 +224,11 @@ function_in kinds (Define specs declarator block) a b is g h =
 
 pub unit_in : (bytes : List ℕ) (tokens : List Token) (unit : Unit) → IsFirstUnit bytes tokens unit →
     ItemsAt unit.items (numbered 0 (kinds_of tokens)) []
-unfolding unit_spelling
 unit_in bytes tokens unit is =
-    let kinds = kinds_of tokens in (
+    let kinds = kinds_of tokens in
+    let spelled = subst (λ (s : Symbols). FitFrom 0 s kinds) (unit_items unit) is.spells in (
       runs_in kinds FunctionAt (IsFunction kinds) item_spelling (function_in kinds) unit.items
           (numbered 0 kinds) [] is.functions (agrees_numbered kinds)
-          (stands_from_fit 0 (flat_map item_spelling unit.items) kinds is.spells),
+          (stands_from_fit 0 (flat_map item_spelling unit.items) kinds spelled),
       refl,
     )

@@ -7,11 +7,12 @@ use Rattle.c_lexer.specs.declared.token.Kind.{Kind}
 use Rattle.c_lexer.specs.declared.token.Kind.TheVariants.{Word, Key, Number, Mark}
 use Rattle.c_lexer.specs.declared.mark.TheConstants.{MARK_RIGHT_BRACE, MARK_LEFT_BRACE, MARK_LEFT_PAREN, MARK_RIGHT_PAREN, MARK_PLUS, MARK_EQUAL, MARK_SEMICOLON}
 use Rattle.c_lexer.specs.declared.keyword.TheConstants.{KEY_INT, KEY_VOID}
-use Rattle.c_tree.specs.Fits.{Fits, Spells}
+use Rattle.c_tree.specs.Fits.{Fits, FitFrom, Spells}
 use Rattle.c_tree.specs.declared.symbol.Want.{Want}
 use Rattle.c_tree.specs.declared.symbol.Want.TheVariants as want
 use Rattle.c_tree.specs.declared.symbol.Slot.TheVariants as slot
-use Rattle.c_tree.specs.Spell.{Symbols, wanted, cond_spelling, stmt_spelling, base_spelling, prefixed_spelling, base_form_spelling, target_spelling, operand_spelling, binary_spelling, assign_spelling, expr_spelling, stmt_kind_spelling, block_item_spelling, item_spelling, unit_spelling}
+use Rattle.c_tree.specs.Spell.{Symbols, wanted, prefixed_spelling, target_spelling, operand_spelling, block_item_spelling, item_spelling}
+use Rattle.c_tree.proofs.Formed.{name_operand_spelling, literal_operand_spelling, statement_spelling, unit_items}
 use Rattle.c_tree.specs.declared.tree.Item.{Item}
 use Rattle.c_tree.specs.declared.tree.Block.{Block}
 use Rattle.c_tree.specs.declared.tree.BlockItem.{BlockItem}
@@ -48,19 +49,21 @@ runs_out kinds S P sp each (x ∷ xs) a b h g =
 
 operand_out : (kinds : List Kind) (p : Prefixed) (a b : Rest) → OperandAt p a b → Agrees kinds a →
     IsOperand kinds p × Stands (prefixed_spelling p) a b
-unfolding prefixed_spelling base_spelling base_form_spelling
-operand_out kinds p a b (inl h) g =
-    subst (λ (v : Prefixed). IsOperand kinds v × Stands (prefixed_spelling v) a b) (sym h.2)
-    (tt, fixed_out h.0 want.Word Word refl a b h.1)
-operand_out kinds p a b (inr h) g =
-    subst (λ (v : Prefixed). IsOperand kinds v × Stands (prefixed_spelling v) a b) (sym h.2) (
-      (h.0, refl, (agrees_here kinds h.0 Number a b h.1 g).0),
-      fixed_out h.0 (want.Among slot.Literal) Number (inl refl) a b h.1,
-    )
+operand_out kinds p a b (inl h) g = (
+  inl (h.0, h.2),
+  subst (λ (v : Prefixed). Stands (prefixed_spelling v) a b) (sym h.2)
+      (subst (λ (s : Symbols). Stands s a b) (sym (name_operand_spelling h.0))
+      (fixed_out h.0 want.Word Word refl a b h.1)),
+)
+operand_out kinds p a b (inr h) g = (
+  inr (h.0, h.2, (agrees_here kinds h.0 Number a b h.1 g).0),
+  subst (λ (v : Prefixed). Stands (prefixed_spelling v) a b) (sym h.2)
+      (subst (λ (s : Symbols). Stands s a b) (sym (literal_operand_spelling h.0))
+      (fixed_out h.0 (want.Among slot.Literal) Number (inl refl) a b h.1)),
+)
 
 target_out : (kinds : List Kind) (t : Prefixed × ℕ) (a b : Rest) → TargetAt t a b → Agrees kinds a →
     IsTarget kinds t × Stands (target_spelling t) a b
-unfolding target_spelling
 target_out kinds t a b h g =
     let mark : Rest = (t.1, Mark MARK_EQUAL) ∷ b in
     let operand = operand_out kinds t.0 a mark h g in
@@ -73,7 +76,6 @@ target_out kinds t a b h g =
 
 addend_out : (kinds : List Kind) (o : ℕ × Prefixed) (a b : Rest) → AddendAt o a b → Agrees kinds a →
     IsAddend kinds o × Stands (operand_spelling o) a b
-unfolding operand_spelling
 addend_out kinds o a b h g =
     let here = agrees_here kinds o.0 (Mark MARK_PLUS) a h.0 h.1 g in
     let operand = operand_out kinds o.1 h.0 b h.2 here.1 in (
@@ -86,10 +88,11 @@ addend_out kinds o a b h g =
 sum_out : (kinds : List Kind) (i : BlockItem) (a b : Rest) (h : StatementAt i a b) → Agrees kinds a →
     IsStatement kinds (statement h.targets h.first h.rest h.semicolon)
     × Stands (block_item_spelling (statement h.targets h.first h.rest h.semicolon)) a b
-unfolding block_item_spelling stmt_spelling stmt_kind_spelling expr_spelling assign_spelling cond_spelling binary_spelling statement
+unfolding statement
 sum_out kinds i a b h g =
     let middle = h.begun.0 in
     let mark : Rest = (h.semicolon, Mark MARK_SEMICOLON) ∷ b in
+    let end = wanted h.semicolon (want.Mark MARK_SEMICOLON) in
     let assigned = flat_map target_spelling h.targets in
     let added = flat_map operand_spelling h.rest in
     let first_spelling = prefixed_spelling h.first in
@@ -100,22 +103,22 @@ sum_out kinds i a b h g =
     let g_between = stands_agrees kinds first_spelling middle h.between first.1 g_middle in
     let rest = runs_out kinds AddendAt (IsAddend kinds) operand_spelling (addend_out kinds) h.rest h.between mark
     h.addends.0 g_between in
-    let value = stands_append first_spelling added middle h.between mark first.1 rest.1 in
-    let assign = stands_append assigned (first_spelling ++ added) a middle mark targets.1 value in
-    let sole = stands_append (assigned ++ (first_spelling ++ added)) [] a mark mark assign refl in (
-      (
-        record {
-          part = record {
-            targets = h.targets;
-            value = record { last = record { first = h.first; rest = h.rest } };
-          };
-          one = refl;
-          sum = record { targets = targets.0; first = first.0; rest = rest.0 };
-        },
-        refl,
-      ),
-      stands_append ((assigned ++ (first_spelling ++ added)) ++ []) (wanted h.semicolon (want.Mark MARK_SEMICOLON))
-          a mark b sole (fixed_out h.semicolon (want.Mark MARK_SEMICOLON) (Mark MARK_SEMICOLON) refl mark b refl),
+    let ended = stands_append added end h.between mark b rest.1
+    (fixed_out h.semicolon (want.Mark MARK_SEMICOLON) (Mark MARK_SEMICOLON) refl mark b refl) in
+    let value = stands_append first_spelling (added ++ end) middle h.between b first.1 ended in
+    let whole = stands_append assigned (first_spelling ++ (added ++ end)) a middle b targets.1 value in (
+      record {
+        targets = h.targets;
+        first = h.first;
+        rest = h.rest;
+        semicolon = h.semicolon;
+        is = refl;
+        targets_are = targets.0;
+        first_is = first.0;
+        rest_are = rest.0;
+      },
+      subst (λ (s : Symbols). Stands s a b)
+          (sym (statement_spelling h.targets h.first h.rest h.semicolon)) whole,
     )
 
 statement_out : (kinds : List Kind) (i : BlockItem) (a b : Rest) → StatementAt i a b → Agrees kinds a →
@@ -193,11 +196,9 @@ function_out kinds i a b h g =
 
 pub items_out : (kinds : List Kind) (items : List Item) (after : Rest) → ItemsAt items (numbered 0 kinds) after →
     All (IsFunction kinds) items × Spells (record { items = items }) kinds
-unfolding unit_spelling
 items_out kinds items after h =
     let out = runs_out kinds FunctionAt (IsFunction kinds) item_spelling (function_out kinds) items
-    (numbered 0 kinds) after h.0 (agrees_numbered kinds) in (
-      out.0,
-      fit_from_stands 0 (flat_map item_spelling items) kinds
-          (subst (λ (r : Rest). Stands (flat_map item_spelling items) (numbered 0 kinds) r) h.1 out.1),
-    )
+    (numbered 0 kinds) after h.0 (agrees_numbered kinds) in
+    let spelled = fit_from_stands 0 (flat_map item_spelling items) kinds
+    (subst (λ (r : Rest). Stands (flat_map item_spelling items) (numbered 0 kinds) r) h.1 out.1) in
+    (out.0, subst (λ (s : Symbols). FitFrom 0 s kinds) (sym (unit_items (record { items = items }))) spelled)

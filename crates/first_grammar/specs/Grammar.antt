@@ -8,12 +8,12 @@ use Rattle.c_lexer.specs.declared.mark.TheConstants.{MARK_LEFT_PAREN, MARK_RIGHT
 use Rattle.c_lexer.specs.declared.mark.TheConstants.{MARK_LEFT_BRACE, MARK_RIGHT_BRACE}
 use Rattle.c_lexer.specs.declared.mark.TheConstants.{MARK_PLUS, MARK_SEMICOLON, MARK_EQUAL}
 use Rattle.c_tree.specs.Forms.{basic, parameterless, name_operand, literal_operand}
+use Rattle.c_tree.specs.Forms.{assigned, expression_stmt, sole, unconditional}
 use Rattle.c_tree.specs.declared.tree.Item.{Item}
 use Rattle.c_tree.specs.declared.tree.Item.TheVariants.{Define}
 use Rattle.c_tree.specs.declared.tree.Block.{Block}
 use Rattle.c_tree.specs.declared.tree.BlockItem.{BlockItem}
 use Rattle.c_tree.specs.declared.tree.BlockItem.TheVariants.{Do}
-use Rattle.c_tree.specs.declared.tree.StmtKind.TheVariants.{Value}
 use Rattle.c_tree.specs.declared.tree.Prefixed.{Prefixed}
 use Rattle.first_grammar.specs.Rest.{Rest, IsAt}
 use Rattle.first_grammar.specs.declared.functions.Head.{Head}
@@ -54,16 +54,8 @@ AddendsAt addends before after =
 
 -- The statement of these parts.
 unfoldable pub statement : List (Prefixed × ℕ) → Prefixed → List (ℕ × Prefixed) → ℕ → BlockItem
-statement targets first rest semicolon = Do (record {
-  kind = Value
-      (record {
-        parts = record {
-          targets = targets;
-          value = record { last = record { first = first; rest = rest } };
-        } ∷ [];
-      })
-      (semicolon ∷ []);
-})
+statement targets first rest semicolon =
+    Do (expression_stmt (sole (assigned targets (unconditional first rest))) semicolon)
 
 -- An expression and `;`.
 pub record StatementAt (item : BlockItem) (before after : Rest) : Type 0 where

@@ -8,7 +8,7 @@ use crate::cursor::Cursor;
 use crate::stop::GrammarStop;
 use c_lexer::Kind;
 use c_lexer::mark::{MARK_EQUAL, MARK_PLUS, MARK_SEMICOLON};
-use c_tree::{Assign, Binary, BlockItem, Cond, Expr, Prefixed, Stmt, StmtKind, list_of_one};
+use c_tree::{Assign, BlockItem, Cond, Expr, Prefixed, Stmt, list_of_one};
 use joern_io::List;
 use std::alloc::{AllocError, Global};
 
@@ -32,19 +32,10 @@ impl<'t> Cursor<'t> {
         let (targets, first) = self.begin()?;
         let rest = self.addends()?;
         let semicolon = self.expect(Kind::Mark(MARK_SEMICOLON))?;
-        let assign = Assign {
-            targets,
-            value: Cond {
-                last: Binary { first, rest },
-            },
-        };
-        let expr = Expr {
-            parts: list_of_one(self.alloc(), assign)?,
-        };
-        let marks = list_of_one(self.alloc(), semicolon)?;
-        Ok(BlockItem::Do(Stmt {
-            kind: StmtKind::Value { expr, marks },
-        }))
+        let value = Cond::unconditional(self.alloc(), first, rest);
+        let expr = Expr::sole(self.alloc(), Assign { targets, value })?;
+        let stmt = Stmt::expression(self.alloc(), expr, semicolon)?;
+        Ok(BlockItem::Do(stmt))
     }
 
     /// The targets with their operators, and the operand with which the value begins.
@@ -77,7 +68,7 @@ impl<'t> Cursor<'t> {
         ensures { Reads OperandAt self.old result self.new }
     {
         if let Some(name) = self.take_if(Kind::Word) {
-            return Ok(Prefixed::name(name));
+            return Ok(Prefixed::name(self.alloc(), name));
         }
         let number = self.expect(Kind::Number)?;
         Ok(Prefixed::literal(self.alloc(), number)?)

@@ -32,7 +32,7 @@ pub(crate) fn function_names<'b>(
     Ok(names)
 }
 
-/// The name of a function.
+/// The name of a function, or none where the item is no function.
 fn name_in<'b>(bytes: &'b [u8], tokens: &[Token], kept: &[u32], item: &Item) -> &'b [u8]
     requires within { All (IsWithin bytes.now) tokens.now }
     requires inside { ArePositionsIn tokens.now kept.now }
@@ -40,10 +40,11 @@ fn name_in<'b>(bytes: &'b [u8], tokens: &[Token], kept: &[u32], item: &Item) -> 
 {
     match item {
         Item::Define { declarator, .. } => text_of_core(bytes, tokens, kept, &declarator.core),
+        Item::Declare(_) => &[],
     }
 }
 
-/// The bytes of the name in a declarator, or none where there is no name.
+/// The bytes of the name in the core of a declarator, or none where no name stands there.
 fn text_of_core<'b>(bytes: &'b [u8], tokens: &[Token], kept: &[u32], core: &Core) -> &'b [u8]
     requires within { All (IsWithin bytes.now) tokens.now }
     requires inside { ArePositionsIn tokens.now kept.now }
@@ -54,7 +55,7 @@ fn text_of_core<'b>(bytes: &'b [u8], tokens: &[Token], kept: &[u32], core: &Core
             Some(token) => text(bytes, &token),
             None => &[],
         },
-        Core::Empty => &[],
+        Core::Group(..) | Core::Empty => &[],
     }
 }
 

@@ -8,7 +8,7 @@ use c_lexer::mark::{
     MARK_LEFT_BRACE, MARK_LEFT_PAREN, MARK_RIGHT_BRACE, MARK_RIGHT_PAREN, MARK_SEMICOLON,
 };
 use c_lexer::{SourceText, lex};
-use c_tree::{BaseForm, BlockItem, Item, Slot, StmtKind, Unit, Want, spell};
+use c_tree::{Assign, BaseForm, BlockItem, Item, Slot, StmtKind, Unit, Want, spell};
 use line_marks::laws::law_kept_positions;
 use line_marks::strip;
 use std::alloc::Global;
@@ -93,25 +93,31 @@ fn a_tree_spells_the_kept_tokens_of_its_file(rt: HostRuntime) -> Result<(), Fail
     Ok(())
 }
 
+/// The first part of the one expression of a file's one function.
+fn sole_part(unit: &Unit) -> Option<&Assign> {
+    let [Item::Define { body, .. }] = unit.items.items() else {
+        return None;
+    };
+    let [BlockItem::Do(stmt)] = body.items.items() else {
+        return None;
+    };
+    match &stmt.kind {
+        StmtKind::Value(expr, _) => expr.parts.items().first(),
+        _ => None,
+    }
+}
+
 // In `int f(void){a=b=1+c;}` tokens 7 and 9 are `=`, token 10 is `1` and token 11 is `+`.
 #[test]
 fn what_stands_before_an_equal_sign_is_a_target(rt: HostRuntime) -> Result<(), Fail> {
     let unit = read(rt.alloc(), b"int f(void){a=b=1+c;}")??;
-    let items = unit.items.items();
-    assert_eq!(rt; items.len(), 1);
-    let Item::Define { body, .. } = &items[0];
-    let statements = body.items.items();
-    assert_eq!(rt; statements.len(), 1);
-    let BlockItem::Do(stmt) = &statements[0];
-    let StmtKind::Value { expr, .. } = &stmt.kind;
-    let parts = expr.parts.items();
-    assert_eq!(rt; parts.len(), 1);
-    let equals = parts[0].targets.items().iter().map(|target| target.1);
+    let part = sole_part(&unit).ok_or("no expression")?;
+    let equals = part.targets.items().iter().map(|target| target.1);
     assert!(rt; equals.eq([7, 9]));
-    let value = &parts[0].value.last;
+    let value = &part.value.last;
     let is_one = match &value.first.base.form {
         BaseForm::Literal(tokens) => tokens.items() == [10].as_slice(),
-        BaseForm::Name(_) => false,
+        _ => false,
     };
     assert!(rt; is_one);
     let pluses = value.rest.items().iter().map(|addend| addend.0);

@@ -1,4 +1,6 @@
-use Rattle.std.proofs.Common.{◌≡◌, ℕ, ◌+◌, ◌-◌, ◌<◌, ◌≤◌, Option, List, length, drop, refl, sym, ap, subst, ◌∙◌, arith}
+use Rattle.c_tree.specs.declared.tree.Assign.{out-Assign}
+use Rattle.c_tree.specs.declared.tree.Cond.{out-Cond}
+use Rattle.std.proofs.Common.{◌≡◌, ℕ, ◌+◌, ◌-◌, Option, List, length, drop, ap, subst, ◌∙◌, arith}
 use Rattle.c_tree.specs.declared.tree.Prefixed.{Prefixed}
 use Rattle.cpg_schema.specs.Graph.{PlainNode}
 use Rattle.graph_forest.specs.Forest.{leaf}
@@ -7,7 +9,6 @@ use Rattle.graph_forest.specs.Planting.{Planting, Plants, Enters}
 use Rattle.graph_forest.specs.declared.rank.Rank.{Rank}
 use Rattle.ast_layer.specs.Source.{File, file_of}
 use Rattle.ast_layer.specs.Grouping.{Grouped, to_the_right, grouped_binary, operand_token}
-use Rattle.graph_forest.specs.Ranks.{argument}
 use Rattle.ast_layer.specs.Nodes.{call_node, operand_node}
 use Rattle.ast_layer.specs.Forests.{grouped_forest}
 use Rattle.ast_layer.proofs.Chains.{LeavesMany, targets_step, targets_end, leaves_step, leaves_none}
@@ -16,14 +17,14 @@ use Rattle.ast_layer.proofs.source.Source.plant_assign.Goals as goal
 pub loop-target-init : goal.loop-target-init
 loop-target-init c = λ after closed planted left.
     let file : File = file_of c.args.self.now in
-    let value : Grouped = grouped_binary c.args.assign.now.value.last in
+    let value : Grouped = grouped_binary (out-Cond (out-Assign c.args.assign.now).value).last in
     subst (λ (l : List (Prefixed × ℕ)). Plants c.args.planter.now closed (grouped_forest file c.args.rank (to_the_right l value))) c.items-targets.ensures
     (subst (λ (p : Planting). Plants c.args.planter.now p (grouped_forest file c.args.rank (to_the_right c.items-targets.result.now value))) left planted)
 
 pub loop-target-preserved : goal.loop-target-preserved
 loop-target-preserved c = λ after closed planted left.
     let file : File = file_of c.args.self.now in
-    let value : Grouped = grouped_binary c.args.assign.now.value.last in
+    let value : Grouped = grouped_binary (out-Cond (out-Assign c.args.assign.now).value).last in
     let targets : List (Prefixed × ℕ) = c.items-targets.result.now in
     let i : ℕ = c.loop-target.target-index in
     let item = c.target-item.result in
@@ -55,7 +56,7 @@ leaving-preserved c = λ closed left.
 pub returns : goal.returns
 returns c =
     let file : File = file_of c.args.self.now in
-    let value : Grouped = grouped_binary c.args.assign.now.value.last in
+    let value : Grouped = grouped_binary (out-Cond (out-Assign c.args.assign.now).value).last in
     let targets : List (Prefixed × ℕ) = c.items-targets.result.now in
     let start = c.plant_binary.new.planter in
     let none : length targets - c.leaving.index ≡ 0 = omega arith in

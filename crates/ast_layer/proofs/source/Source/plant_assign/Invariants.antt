@@ -1,3 +1,5 @@
+use Rattle.c_tree.specs.declared.tree.Assign.{out-Assign}
+use Rattle.c_tree.specs.declared.tree.Cond.{out-Cond}
 use Rattle.std.proofs.Common.{◌-◌, length, drop}
 use Rattle.graph_forest.specs.Planting.{Planting, Plants}
 use Rattle.ast_layer.specs.Source.{file_of}
@@ -10,7 +12,7 @@ use Rattle.ast_layer.proofs.source.Source.plant_assign.Given as goal
 abbrev pub invariant-loop-target : goal.invariant-loop-target
 invariant-loop-target l =
     (after closed : Planting) →
-    Plants l.planter after (grouped_forest (file_of l.self) l.rank (to_the_right (drop l.target-index l.targets) (grouped_binary l.assign.value.last))) →
+    Plants l.planter after (grouped_forest (file_of l.self) l.rank (to_the_right (drop l.target-index l.targets) (grouped_binary (out-Cond (out-Assign l.assign).value).last))) →
     LeavesMany l.target-index after closed → Plants l.fn.planter closed (grouped_forest (file_of l.self) l.fn.rank (grouped_assign l.assign))
 
 -- So many CALLs are left.

@@ -1,4 +1,5 @@
-use Rattle.std.proofs.Common.{◌≡◌, ℕ, ◌+◌, ◌-◌, ◌<◌, ◌≤◌, Option, List, length, get_or, drop, refl, sym, ap, subst, ◌∙◌, arith}
+use Rattle.c_tree.specs.declared.tree.Binary.{out-Binary}
+use Rattle.std.proofs.Common.{◌≡◌, ℕ, ◌+◌, ◌-◌, ◌<◌, Option, List, length, get_or, drop, refl, sym, ap, subst, ◌∙◌, arith}
 use Rattle.c_tree.specs.declared.tree.Prefixed.{Prefixed}
 use Rattle.cpg_schema.specs.Graph.{PlainNode}
 use Rattle.graph_forest.specs.Forest.{leaf}
@@ -15,7 +16,7 @@ use Rattle.ast_layer.proofs.source.Source.plant_binary.Goals as goal
 pub loop-left-init : goal.loop-left-init
 loop-left-init c =
     let file : File = file_of c.args.self.now in
-    let first : Prefixed = c.args.binary.now.first in (
+    let first : Prefixed = (out-Binary c.args.binary.now).first in (
       omega arith,
       λ after closed planted closes.
           subst (λ (l : List (ℕ × Prefixed)). Plants c.args.planter.now closed (grouped_forest file c.args.rank (to_the_left (Operand first) l))) c.items-rest.ensures
@@ -25,7 +26,7 @@ loop-left-init c =
 pub loop-left-preserved : goal.loop-left-preserved
 loop-left-preserved c =
     let file : File = file_of c.args.self.now in
-    let first : Prefixed = c.args.binary.now.first in
+    let first : Prefixed = (out-Binary c.args.binary.now).first in
     let rest : List (ℕ × Prefixed) = c.items-rest.result.now in
     let a = c.loop-left.planter in
     let b = c.enter.new.self in
@@ -65,7 +66,7 @@ loop-next-preserved c = λ closed closes.
 pub returns : goal.returns
 returns c =
     let file : File = file_of c.args.self.now in
-    let first : Prefixed = c.args.binary.now.first in
+    let first : Prefixed = (out-Binary c.args.binary.now).first in
     let rest : List (ℕ × Prefixed) = c.items-rest.result.now in
     let start = c.plant_operand.new.planter in
     let none : c.loop-left.left ≡ 0 = omega arith in

@@ -1,4 +1,5 @@
-use Rattle.std.proofs.Common.{ℕ, ◌≤◌, length, drop}
+use Rattle.c_tree.specs.declared.tree.Binary.{out-Binary}
+use Rattle.std.proofs.Common.{◌≤◌, length, drop}
 use Rattle.graph_forest.specs.Planting.{Planting, Plants}
 use Rattle.ast_layer.specs.Source.{file_of}
 use Rattle.ast_layer.specs.Grouping.{grouped_binary}
@@ -11,7 +12,7 @@ use Rattle.ast_layer.proofs.source.Source.plant_binary.Given as goal
 abbrev pub invariant-loop-left : goal.invariant-loop-left
 invariant-loop-left l =
     (l.left ≤ length l.rest)
-    × ((after closed : Planting) → Plants l.planter after (grouped_forest (file_of l.self) l.rank (front l.binary.first l.rest l.left)) →
+    × ((after closed : Planting) → Plants l.planter after (grouped_forest (file_of l.self) l.rank (front (out-Binary l.binary).first l.rest l.left)) →
     Closes (file_of l.self) (drop l.left l.rest) after closed → Plants l.fn.planter closed (grouped_forest (file_of l.self) l.fn.rank (grouped_binary l.binary)))
 
 abbrev pub decreases-loop-left : goal.decreases-loop-left

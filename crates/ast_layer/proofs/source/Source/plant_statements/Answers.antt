@@ -1,4 +1,4 @@
-use Rattle.std.proofs.Common.{◌≡◌, ℕ, ◌+◌, ◌<◌, Option, Some, None, length, drop, subst, sym, ap, ◌∙◌}
+use Rattle.std.proofs.Common.{◌≡◌, ℕ, ◌+◌, ◌<◌, Some, None, length, drop, subst, ap, ◌∙◌}
 use Rattle.graph_forest.specs.Planting.{Plants}
 use Rattle.graph_forest.specs.declared.rank.Rank.{Rank}
 use Rattle.ast_layer.specs.Source.{File, file_of}

@@ -2,9 +2,11 @@ use Rattle.std.proofs.Common.{rules, ◌≡◌, ℕ, List, [], ◌∷◌, Err, a
 use Rattle.std.proofs.lemmas.Result.{err_from_is_err_and}
 use Rattle.c_lexer.specs.declared.token.Kind.TheVariants.{Mark}
 use Rattle.c_lexer.specs.declared.mark.TheConstants.{MARK_SEMICOLON}
-use Rattle.c_tree.specs.declared.tree.Assign.{Assign}
+use Rattle.c_tree.specs.Forms.{assigned, expression_stmt, sole}
+use Rattle.c_tree.specs.declared.tree.Cond.{Cond}
+use Rattle.c_tree.specs.declared.tree.Expr.{Expr}
+use Rattle.c_tree.specs.declared.tree.Stmt.{Stmt}
 use Rattle.c_tree.specs.declared.tree.BlockItem.TheVariants.{Do}
-use Rattle.c_tree.specs.declared.tree.StmtKind.TheVariants.{Value}
 use Rattle.first_grammar.specs.Rest.{Rest, TokenAt}
 use Rattle.first_grammar.specs.Grammar.{AddendsAt, BegunAt, StatementAt, statement}
 use Rattle.first_grammar.proofs.Fails.{fails, statement_addends, statement_begun, statement_mark}
@@ -39,21 +41,19 @@ returns-in_err-semicolon c =
 pub returns : goal.returns
 unfolding statement
 returns c =
-    let part : Assign = record {
-      targets = c.in_ok-targets.targets;
-      value = record { last = record { first = c.in_ok-targets.first; rest = c.in_ok-rest.rest } };
-    } in
-    let parts : c.in_ok-list_of_one.field-0 ≡ part ∷ [] = search rules in
+    let targets = c.in_ok-targets.targets in
+    let semicolon = c.in_ok-semicolon.semicolon in
     record {
-      targets = c.in_ok-targets.targets;
+      targets = targets;
       first = c.in_ok-targets.first;
       rest = c.in_ok-rest.rest;
-      semicolon = c.in_ok-semicolon.semicolon;
+      semicolon = semicolon;
       between = c.begin.new.self;
       begun = c.in_ok-targets.ensures;
       addends = subst (λ (r : Rest). AddendsAt c.in_ok-rest.rest c.begin.new.self r) c.in_ok-semicolon.ensures
           c.in_ok-rest.ensures;
       is =
-          ap (λ (v : List Assign). Do (record { kind = Value (record { parts = v }) c.in_ok-marks.marks })) parts ∙
-          ap (λ (v : List ℕ). Do (record { kind = Value (record { parts = part ∷ [] }) v })) c.in_ok-marks.ensures;
+          ap (λ (v : Stmt). Do v) c.in_ok-stmt.ensures ∙
+          (ap (λ (v : Expr). Do (expression_stmt v semicolon)) c.in_ok-expr.ensures ∙
+          ap (λ (v : Cond). Do (expression_stmt (sole (assigned targets v)) semicolon)) c.unconditional-value.ensures);
     }

@@ -1,0 +1,15 @@
+use Rattle.std.proofs.Common.{◌≡◌, ◌+◌, ◌≤◌, ◌++◌, length, drop, map}
+use Rattle.c_tree.specs.Walk.{after_commas}
+use Rattle.c_tree.specs.Weights.{listed}
+use Rattle.c_tree.proofs.pending.Pending.push_others.Given as goal
+
+-- The items from `left` on are put on the stack, each after its comma.
+abbrev pub invariant-loop-left : goal.invariant-loop-left
+invariant-loop-left g l = record {
+  within : l.left ≤ length l.items;
+  spells : l.self.0 ≡ after_commas (map g.T.Listed.spelling (drop l.left l.items)) (drop l.left l.marks) ++ l.fn.self.0;
+  weighs : l.self.1 ≤ listed (map g.T.Listed.weight (drop l.left l.items)) + l.fn.self.1;
+}
+
+abbrev pub decreases-loop-left : goal.decreases-loop-left
+decreases-loop-left g l = l.left
