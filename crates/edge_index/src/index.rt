@@ -1,7 +1,8 @@
 //! The index of a graph, and what it lends.
 
 ghost use Rattle.std.specs.Prelude.{◌≡◌, ◌<◌, IfOk};
-ghost use Rattle.edge_index.specs.Indexed.{into_edges, out_edges, IsIndexOf};
+ghost use Rattle.graph_store.specs.Stored.{plain_edge};
+ghost use Rattle.edge_index.specs.Indexed.{into_edges, out_edges, AreInOrder, IsIndexOf};
 
 use crate::direction::{Arriving, Leaving};
 use crate::side::Side;
@@ -51,6 +52,19 @@ pub fn index_of(alloc: Global, graph: &Graph) -> Result<Index, AllocError>
         leaving: Side::of::<Leaving>(alloc, graph, node_count)?,
         arriving: Side::of::<Arriving>(alloc, graph, node_count)?,
     })
+}
+
+/// All edges of a graph in the order of printing: by from, kind, to and the variable's name.
+///
+/// Whoever only prints a graph needs no more of its index. It takes memory for one copy of the
+/// edges, and the time of one of the index's two sides.
+pub fn edges_in_order(alloc: Global, graph: &Graph) -> Result<Vec<Edge>, AllocError>
+    ensures { IfOk result (λ edges.
+        AreInOrder (plain_edge graph.now.names) graph.now.edges edges.items) }
+{
+    law_stored(graph);
+    let Side { edges, starts: _ } = Side::of::<Leaving>(alloc, graph, graph.len())?;
+    Ok(edges)
 }
 
 impl Index {

@@ -10,4 +10,4 @@ mod side;
 #[cfg(test)]
 mod tests;
 
-pub use index::{Index, index_of};
+pub use index::{Index, edges_in_order, index_of};

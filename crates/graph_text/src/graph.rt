@@ -7,21 +7,21 @@ ghost use Rattle.cpg_schema.specs.Lines.{graph_lines, node_line, node_lines};
 ghost use Rattle.cpg_schema.specs.Lines.{edge_line, variable_text};
 ghost use Rattle.cpg_schema.specs.Names.{kind_name};
 ghost use Rattle.graph_store.specs.Stored.{plain, plain_edge};
-ghost use Rattle.edge_index.specs.Indexed.{IsIndexOf};
+ghost use Rattle.edge_index.specs.Indexed.{AreInOrder};
 ghost use Rattle.graph_text.specs.Printing.{Prints};
 
 use crate::printer::Printer;
 use cpg_schema::EdgeKind;
-use edge_index::Index;
 use graph_store::{Edge, Graph};
 use joern_io::{Failed, Sink};
 
-/// Prints the lines of a graph, of which this is the index. Takes no memory.
+/// Prints the lines of a graph, of which these are the edges in the order of printing. Takes no
+/// memory.
 ///
 /// `Failed` comes only where the sink counted a fault in this call. Then it took a proper prefix of
 /// the lines.
-pub fn dump<S: Sink>(graph: &Graph, index: &Index, sink: &mut S) -> Result<(), Failed>
-    requires indexed { IsIndexOf graph.now index.now }
+pub fn dump<S: Sink>(graph: &Graph, edges: &[Edge], sink: &mut S) -> Result<(), Failed>
+    requires order { AreInOrder (plain_edge graph.now.names) graph.now.edges edges.now }
     ensures ok { OnOk result
         (Takes (S.state sink.old) (S.state sink.new) (graph_lines (plain graph.now))) }
     ensures failed { OnErr result
@@ -29,7 +29,7 @@ pub fn dump<S: Sink>(graph: &Graph, index: &Index, sink: &mut S) -> Result<(), F
 {
     let mut printer = Printer::new();
     printer.nodes(sink, graph);
-    printer.edges(sink, graph, index.edges());
+    printer.edges(sink, graph, edges);
     printer.finish(sink)
 }
 

@@ -6,7 +6,7 @@ ghost use Rattle.graph_store.specs.Stored.{plain};
 
 use crate::{LinePart, dump, print_line};
 use cpg_schema::{Caps, EdgeKind, End, Key, Label, allows};
-use edge_index::index_of;
+use edge_index::edges_in_order;
 use graph_store::{ApplyStop, Delta, Graph, apply};
 use joern_io::Tape;
 use std::alloc::{AllocError, Global};
@@ -206,9 +206,9 @@ fn all_edges() -> &'static [Edge] {
 
 /// The lines of a graph, on a tape that has room for them.
 fn print(alloc: Global, graph: &Graph) -> Result<Tape, Fail> {
-    let index = index_of(alloc, graph)?;
+    let edges = edges_in_order(alloc, graph)?;
     let mut tape = Tape::new(alloc, 4096, 4096, Vec::new(alloc))?;
-    dump(graph, &index, &mut tape)
+    dump(graph, &edges, &mut tape)
         .ok()
         .ok_or("the tape has no room")?;
     Ok(tape)

@@ -2,13 +2,13 @@
 use Rattle.std.specs.Prelude.{ℕ, ◌≡◌, ◌⊎◌, List, []}
 use Rattle.joern_io.specs.Sinks.{SinkState, Takes, TakesPrefix}
 use Rattle.graph_store.specs.Stored.{plain}
-use Rattle.edge_index.specs.Indexed.{IsIndexOf}
 use Rattle.joern_top.specs.declared.status.Status.{Status}
 use Rattle.joern_top.specs.declared.status.Status.TheVariants as status
 use Rattle.joern_top.specs.declared.refusal.Refusal.{Refusal}
 use Rattle.joern_top.specs.declared.answer.Answer.{Answer}
 use Rattle.joern_top.specs.declared.answer.Answer.TheVariants as answer
 use Rattle.joern_top.specs.Messages.{refused_line}
+use Rattle.joern_top.specs.Reading.{HasEdgesInOrder}
 use Rattle.joern_top.specs.Run.{Outcome, outcome, usage_outcome, read_fault_outcome}
 use Rattle.joern_top.specs.Run.{limit_outcome, graph_outcome}
 
@@ -33,10 +33,10 @@ IsDecided (answer.ReadFault _) = ⊥
 IsDecided answer.NoMemory = ⊥
 IsDecided _ = Unit {0}
 
--- The index of a graph that is answered is its own.
-abbrev pub IsIndexed : Answer → Type 0
-IsIndexed (answer.Dump built) = IsIndexOf built.graph built.index
-IsIndexed _ = Unit {0}
+-- A graph that is answered has its edges beside it, in the order of printing.
+abbrev pub IsOrdered : Answer → Type 0
+IsOrdered (answer.Dump built) = HasEdgesInOrder built
+IsOrdered _ = Unit {0}
 
 -- P of the name of the file that could not be read, if the answer says so.
 abbrev pub IfReadFault : Answer → (List ℕ → Type 0) → Type 0

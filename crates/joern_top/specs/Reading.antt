@@ -1,8 +1,8 @@
 -- What is held of a source that was read and of its graph, and how a source is refused.
 use Rattle.std.specs.Prelude.{ℕ, ◌≡◌, List, Some, Ok}
 use Rattle.c_lexer.specs.Lines.{line_at, column_at}
-use Rattle.graph_store.specs.Stored.{plain}
-use Rattle.edge_index.specs.Indexed.{IsIndexOf}
+use Rattle.graph_store.specs.Stored.{plain, plain_edge}
+use Rattle.edge_index.specs.Indexed.{AreInOrder}
 use Rattle.graph_forest.specs.Forest.{Forest}
 use Rattle.ast_layer.specs.declared.source.Source.{Source}
 use Rattle.ast_layer.specs.Parts.{source_forest}
@@ -23,10 +23,15 @@ pub record IsReadSource (name bytes : List ℕ) (source : Source) : Type 0 where
   pub is : IsReadAs name bytes parts
   pub forest : source_forest (Some source) ≡ forest_of name bytes parts
 
--- It is the graph of a source with this forest, with its index.
+-- What stands beside the graph are its edges, in the order of printing.
+abbrev pub HasEdgesInOrder : BuiltGraph → Type 0
+HasEdgesInOrder built =
+    AreInOrder (plain_edge built.graph.names) built.graph.edges built.edges.items
+
+-- It is the graph of a source with this forest, with its edges in order.
 pub record IsBuiltFrom (forest : Forest) (built : BuiltGraph) : Type 0 where
   pub is : built_alone forest ≡ Ok (plain built.graph)
-  pub indexed : IsIndexOf built.graph built.index
+  pub ordered : HasEdgesInOrder built
 
 -- ---- A source that is refused
 

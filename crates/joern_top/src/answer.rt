@@ -5,7 +5,7 @@ ghost use Rattle.std.specs.Prelude.{vec_len};
 ghost use Rattle.joern_io.specs.Held.{file_of};
 ghost use Rattle.joern_io.specs.Files.{KeepsFiles, RoseOrLacks};
 ghost use Rattle.ast_layer.specs.Parts.{source_forest};
-ghost use Rattle.joern_top.specs.Answers.{outcome_of, IsDecided, IsIndexed, IfReadFault};
+ghost use Rattle.joern_top.specs.Answers.{outcome_of, IsDecided, IsOrdered, IfReadFault};
 ghost use Rattle.joern_top.specs.Graph.{built_alone};
 ghost use Rattle.joern_top.specs.Run.{IsOutcome, IsFileOutcome, built_outcome};
 ghost use Rattle.joern_top.specs.Words.{Dump, command};
@@ -31,7 +31,7 @@ pub(crate) enum Answer<'a> {
     Limit { what: What, at: u32 },
     /// The source of this name is refused.
     Refused { name: &'a str, refusal: Refusal },
-    /// The lines of a graph, with its index.
+    /// The lines of a graph.
     Dump { built: BuiltGraph },
     NoMemory,
 }
@@ -39,7 +39,7 @@ pub(crate) enum Answer<'a> {
 /// The answer to the words, in the order of refusals.
 pub(crate) fn decide<'a, F: Files>(alloc: Global, words: &'a [String], files: &mut F) -> Answer<'a>
     ensures keeps { KeepsFiles (F.state files.old) (F.state files.new) }
-    ensures indexed { IsIndexed result }
+    ensures ordered { IsOrdered result }
     ensures no_command { IsNone (command (map string_bytes words.now)) →
         (result ≡ Answer.Usage) × (files.new ≡ files.old) }
     ensures usage { result ≡ Answer.Usage → IsNone (command (map string_bytes words.now)) }
@@ -58,7 +58,7 @@ pub(crate) fn decide<'a, F: Files>(alloc: Global, words: &'a [String], files: &m
 /// The answer to a dump of the file of this name.
 fn dump_answer<'a, F: Files>(alloc: Global, name: &'a str, files: &mut F) -> Answer<'a>
     ensures keeps { KeepsFiles (F.state files.old) (F.state files.new) }
-    ensures indexed { IsIndexed result }
+    ensures ordered { IsOrdered result }
     ensures no_usage { ¬ (result ≡ Answer.Usage) }
     ensures decided { IfSome (F.state files.old).held (λ held. IsDecided result →
         IsFileOutcome name.now (file_of held name.now) (outcome_of result)) }
@@ -81,7 +81,7 @@ fn source_answer<'a>(alloc: Global, name: &'a str, bytes: Vec<u8>) -> Answer<'a>
     requires within { vec_len bytes ≤ MAX_FILE_BYTES }
     ensures decided { IsDecided result →
         IsFileOutcome name.now (Some bytes.items) (outcome_of result) }
-    ensures indexed { IsIndexed result }
+    ensures ordered { IsOrdered result }
     ensures no_usage { ¬ (result ≡ Answer.Usage) }
     ensures no_read_fault { IfReadFault result (λ _. ⊥) }
 {
@@ -96,7 +96,7 @@ fn source_answer<'a>(alloc: Global, name: &'a str, bytes: Vec<u8>) -> Answer<'a>
 fn graph_answer<'a>(alloc: Global, source: Source) -> Answer<'a>
     ensures decided { IsDecided result →
         outcome_of result ≡ built_outcome (built_alone (source_forest (Some source))) }
-    ensures indexed { IsIndexed result }
+    ensures ordered { IsOrdered result }
     ensures no_usage { ¬ (result ≡ Answer.Usage) }
     ensures no_read_fault { IfReadFault result (λ _. ⊥) }
 {

@@ -10,8 +10,8 @@ ghost use Rattle.joern_top.specs.Reading.{IsBuiltFrom};
 use crate::hashes::name_hashes;
 use ast_layer::{AstPass, Source};
 use cpg_schema::Caps;
-use edge_index::{Index, index_of};
-use graph_store::{ApplyStop, Graph};
+use edge_index::edges_in_order;
+use graph_store::{ApplyStop, Edge, Graph};
 use pass_runner::run_pass_one;
 use std::alloc::{AllocError, Global};
 
@@ -24,14 +24,14 @@ const MAX_EDGES: u32 = 67_108_864;
 /// The number of the pass that adds the syntax layer.
 pub(crate) const FIRST_PASS: u32 = 1;
 
-/// A graph with its index.
+/// A graph with its edges in the order of printing.
 #[derive(Drop)]
 pub(crate) struct BuiltGraph {
     pub(crate) graph: Graph,
-    pub(crate) index: Index,
+    pub(crate) edges: Vec<Edge>,
 }
 
-/// Builds the graph of a source, and its index.
+/// Builds the graph of a source, and puts its edges in order.
 pub(crate) fn build_graph(alloc: Global, source: Source) -> Result<BuiltGraph, ApplyStop>
     ensures ok { IfOk result (IsBuiltFrom (source_forest (Some source))) }
     ensures too_many_nodes { result ≡ Err ApplyStop.TooManyNodes →
@@ -40,11 +40,12 @@ pub(crate) fn build_graph(alloc: Global, source: Source) -> Result<BuiltGraph, A
         built_alone (source_forest (Some source)) ≡ Err Cap.edges }
 {
     let graph = graph_of(alloc, source)?;
-    let index = index_of(alloc, &graph)?;
-    Ok(BuiltGraph { graph, index })
+    let edges = edges_in_order(alloc, &graph)?;
+    Ok(BuiltGraph { graph, edges })
 }
 
-/// Builds the graph of a source. The source's memory is given back before the index takes its own.
+/// Builds the graph of a source. The source's memory is given back before the edges are put in
+/// order.
 fn graph_of(alloc: Global, source: Source) -> Result<Graph, ApplyStop>
     ensures ok { IfOk result (λ graph.
         built_alone (source_forest (Some source)) ≡ Ok (plain graph)) }

@@ -1,8 +1,8 @@
 //! Writing what was decided.
 
 ghost use Rattle.graph_store.specs.Stored.{plain};
-ghost use Rattle.edge_index.specs.Indexed.{IsIndexOf};
-ghost use Rattle.joern_top.specs.Answers.{outcome_of, refusal_outcome, IsIndexed, Writes};
+ghost use Rattle.joern_top.specs.Answers.{outcome_of, refusal_outcome, IsOrdered, Writes};
+ghost use Rattle.joern_top.specs.Reading.{HasEdgesInOrder};
 ghost use Rattle.joern_top.specs.Run.{outcome, read_fault_outcome};
 ghost use Rattle.joern_top.specs.Run.{limit_outcome, graph_outcome};
 ghost use Rattle.graph_text.specs.LineParts.{line_text};
@@ -16,7 +16,7 @@ use joern_io::{Failed, Sink};
 
 /// Writes an answer, and says how the run ended.
 pub(crate) fn write_answer<S: Sink>(answer: &Answer<'_>, out: &mut S) -> Status
-    requires indexed { IsIndexed answer.now }
+    requires ordered { IsOrdered answer.now }
     ensures { Writes (outcome_of answer.now) (S.state out.old) (S.state out.new) result }
 {
     match answer {
@@ -31,11 +31,11 @@ pub(crate) fn write_answer<S: Sink>(answer: &Answer<'_>, out: &mut S) -> Status
 
 /// Prints a graph.
 fn write_dump<S: Sink>(built: &BuiltGraph, out: &mut S) -> Status
-    requires indexed { IsIndexOf built.now.graph built.now.index }
+    requires ordered { HasEdgesInOrder built.now }
     ensures { Writes (graph_outcome (plain built.now.graph))
         (S.state out.old) (S.state out.new) result }
 {
-    match dump(&built.graph, &built.index, out) {
+    match dump(&built.graph, &built.edges, out) {
         Ok(()) => Status::Ok,
         Err(Failed) => Status::WriteFault,
     }
