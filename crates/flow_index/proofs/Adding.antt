@@ -171,13 +171,13 @@ bridging_more flow pairs ways after index d within is added = record {
 }
 
 -- a pair whose goal is no vertex has no bridges
-pub bridging_skip : (flow : FlowGraph) (pairs : List Pair) (ways : List (ℕ × ℕ)) (index : ℕ) (d : Pair) → index < length pairs → IsWithin flow → flow.vertices ≤ (get_or pairs index d).goal → Bridging flow pairs ways index → Bridging flow pairs ways (index + 1)
-bridging_skip flow pairs ways index d inside within beyond is = bridging_more flow pairs ways ways index d inside is (record {
+pub over_none : (flow : FlowGraph) (pair : Pair) (ways : List (ℕ × ℕ)) → IsWithin flow → flow.vertices ≤ pair.goal → AddsAll (BridgesOver flow pair) ways ways
+over_none flow pair ways within beyond = record {
   more = [];
   kept = sym (append-nil ways);
-  new = All-nil (BridgesOver flow (get_or pairs index d));
+  new = All-nil (BridgesOver flow pair);
   all = λ way over. let below = (All-contains (IsAmong flow.vertices) flow.opens _ within.opens over.opened).to in absurd (omega arith);
-})
+}
 
 pub bridging_end : (flow : FlowGraph) (pairs : List Pair) (ways : List (ℕ × ℕ)) (index : ℕ) → length pairs ≤ index → Bridging flow pairs ways index → (a b : ℕ) →
     (Contains ways (a, b) → Bridges flow pairs a b) × (Bridges flow pairs a b → Contains ways (a, b))

@@ -4,7 +4,7 @@ ghost use Rattle.std.specs.Prelude.{ℕ, ◌≡◌, ◌<◌, ◌↔◌, IfOk, Is
 ghost use Rattle.std.specs.List.{Contains};
 ghost use Rattle.matched_paths.specs.Edges.{IsWithin};
 ghost use Rattle.flow_index.specs.Ways.{AddsAll, AreAmong, AreSteps, Bridges, BridgesOver, Returns};
-ghost use Rattle.flow_index.specs.Crossings.{AreCallPlaces, AreGoalPlaces};
+ghost use Rattle.flow_index.specs.Crossings.{AreCallPlaces, AreGoalPlaces, IsIndexOf};
 
 use crate::chains::Chains;
 use matched_paths::{Crossing, FlowGraph, Pair};
@@ -62,33 +62,66 @@ fn add_bridges(
     Ok(())
 }
 
+/// The opens of a flow graph by their goals, and its closes by their calls.
+#[derive(Drop)]
+pub struct CrossingIndex {
+    by_goal: Chains,
+    by_call: Chains,
+}
+
+impl CrossingIndex {
+    /// The index of a flow graph.
+    pub fn of(alloc: Global, flow: &FlowGraph) -> Result<CrossingIndex, AllocError>
+        requires { IsWithin flow.now }
+        ensures { IfOk result (IsIndexOf flow.now) }
+    {
+        let goals: Vec<u32> = flow
+            .opens
+            .items()
+            .iter()
+            .map(|entry| entry.to)
+            .collect(alloc)?;
+        let by_goal = Chains::of(alloc, flow.vertices as usize, &goals)?;
+        let calls: Vec<u32> = flow
+            .closes
+            .items()
+            .iter()
+            .map(|close| close.call.min(flow.vertices))
+            .collect(alloc)?;
+        let by_call = Chains::of(alloc, flow.vertices as usize + 1, &calls)?;
+        Ok(CrossingIndex { by_goal, by_call })
+    }
+
+    /// Adds the bridges over a pair, in time linear in the opens to its goal, each with the closes
+    /// of its call.
+    pub fn add_over(
+        &self,
+        flow: &FlowGraph,
+        pair: Pair,
+        ways: &mut Vec<(u32, u32)>,
+    ) -> Result<(), AllocError>
+        requires within { IsWithin flow.now }
+        requires index { IsIndexOf flow.now self.now }
+        ensures { OnOk result (AddsAll (BridgesOver flow.now pair) ways.old.items ways.new.items) }
+    {
+        if pair.goal >= flow.vertices {
+            return Ok(());
+        }
+        add_bridges(flow, &self.by_goal, &self.by_call, pair, ways)
+    }
+}
+
 /// The bridges over these pairs: ways from where a call opens a pair's goal to where it closes the
-/// pair's out. It takes time linear in the opens to the goals of the pairs, each with the closes of
-/// its call.
+/// pair's out.
 fn bridges(alloc: Global, flow: &FlowGraph, pairs: &[Pair]) -> Result<Vec<(u32, u32)>, AllocError>
     requires { IsWithin flow.now }
     ensures { IfOk result (λ ways. (a b : ℕ) →
         Contains ways.items (a, b) ↔ Bridges flow.now pairs.now a b) }
 {
-    let goals: Vec<u32> = flow
-        .opens
-        .items()
-        .iter()
-        .map(|entry| entry.to)
-        .collect(alloc)?;
-    let by_goal = Chains::of(alloc, flow.vertices as usize, &goals)?;
-    let calls: Vec<u32> = flow
-        .closes
-        .items()
-        .iter()
-        .map(|close| close.call.min(flow.vertices))
-        .collect(alloc)?;
-    let by_call = Chains::of(alloc, flow.vertices as usize + 1, &calls)?;
+    let index = CrossingIndex::of(alloc, flow)?;
     let mut ways = Vec::new(alloc);
     for pair in pairs {
-        if pair.goal < flow.vertices {
-            add_bridges(flow, &by_goal, &by_call, *pair, &mut ways)?;
-        }
+        index.add_over(flow, *pair, &mut ways)?;
     }
     Ok(ways)
 }

@@ -8,7 +8,7 @@ mod crossing_ways;
 mod reaching;
 mod vertex_set;
 
-pub use bridging::folded_ways;
+pub use bridging::{CrossingIndex, folded_ways};
 pub use chains::Chains;
 pub use crossing_ways::ways_of;
 pub use reaching::reached;

@@ -10,7 +10,7 @@ use std::marker::Model;
 
 /// A set of vertices, in the order in which they were met.
 ///
-/// Contracts see how many vertices there are, and the list of those that were met, each once.
+/// Contracts see how many vertices there are, and the list of those that were met.
 #[derive(Drop)]
 pub struct VertexSet {
     marks: Vec<bool>,

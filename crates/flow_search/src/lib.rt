@@ -3,5 +3,7 @@
 #![tactic(auto)]
 
 mod search;
+#[cfg(test)]
+mod tests;
 
 pub use search::{Reached, reach};

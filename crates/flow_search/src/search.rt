@@ -41,7 +41,8 @@ fn with_crossings(
 
 /// The vertices to which a flow leads from one of the starts, the starts among them.
 ///
-/// It takes time linear in the flow graph and the bridges over the table's pairs.
+/// It takes time linear in the flow graph and in the opens to the goals of the table's pairs, each
+/// with the closes of its call.
 pub fn reach(alloc: Global, closed: &Closed, starts: &[u32]) -> Result<Reached, AllocError>
     requires { All (Contains closed.now.starts) starts.now }
     ensures { IfOk result (IsReachedFrom closed.now.flow starts.now) }

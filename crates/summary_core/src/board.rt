@@ -8,18 +8,18 @@ ghost use Rattle.matched_paths.specs.Edges.{IsWithin};
 ghost use Rattle.summary_core.specs.Searches.{IsFoundOf};
 ghost use Rattle.summary_core.specs.Board.{IsClaimable, IsOpening};
 ghost use Rattle.summary_core.specs.Events.{Abandons, Claims, FindsNone, Flies, Publishes};
-ghost use Rattle.summary_core.specs.Sound.{IsQuiet, IsSound};
+ghost use Rattle.summary_core.specs.Sound.{IsSound};
 ghost use Rattle.summary_core.specs.Table.{IsClosed};
 
-use crate::claims::{add_pairs, first_claimable, place_of};
+use crate::claims::{add_pairs, first_claimable, goals_among, place_of};
 use crate::closed::Closed;
 use crate::found::{Found, Goal};
 use crate::mirror::Mirror;
-use crate::search::outs;
 use crate::task::{Stamp, Task};
 use crate::wanted::wanted_tasks;
 use joern_io::List as ListOf;
 use matched_paths::{FlowGraph, Pair};
+use path_facts::true_pairs;
 use std::alloc::{AllocError, Global};
 use std::marker::Model;
 use std::sync::Arc;
@@ -148,52 +148,26 @@ impl Board {
         self.tasks[place].flies = false;
     }
 
-    /// The closed table: goes on until no goal is dirty.
+    /// The closed table: what the wanted goals lead to, by a work list of facts from the goals.
     pub fn finish(self, alloc: Global) -> Result<Closed, AllocError>
         requires { All (λ task. task.flies ≡ false) self.tasks }
         ensures flow { IfOk result (λ closed. closed.flow ≡ self.flow) }
         ensures starts { IfOk result (λ closed. closed.starts ≡ self.starts) }
         ensures closed { IfOk result IsClosed }
     {
-        let mut board = self;
-        let mut mirror = Mirror::new(alloc);
-        for _ in 0..u64::MAX {
-            board.copy_tail(&mut mirror)?;
-            let Some(goal) = board.claim(&mirror) else {
-                return Ok(board.close());
-            };
-            let found = board.search(alloc, &mirror, goal)?;
-            board.publish(goal, found)?;
-        }
-        Err(AllocError) // No history has so many pairs.
-    }
-
-    /// What is found from a goal in flight over the mirror.
-    fn search(&self, alloc: Global, mirror: &Mirror, goal: Goal) -> Result<Found, AllocError>
-        requires { Flies self.now goal.vertex }
-        ensures { IfOk result (IsFoundOf self.now.flow mirror.now goal.vertex) }
-    {
-        outs(alloc, &self.flow, mirror, goal)
-    }
-
-    /// The table of a board on which nothing is left to do.
-    fn close(self) -> Closed
-        requires { IsQuiet self }
-        ensures flow { result.flow ≡ self.flow }
-        ensures starts { result.starts ≡ self.starts }
-        ensures closed { IsClosed result }
-    {
         let Board {
             flow,
             starts,
-            mut history,
-            tasks: _,
+            history: _,
+            tasks,
         } = self;
-        history.sort_unstable();
-        Closed {
+        let goals = goals_among(alloc, &tasks)?;
+        let mut pairs = true_pairs(alloc, &flow, &goals)?;
+        pairs.sort_unstable();
+        Ok(Closed {
             flow,
             starts,
-            pairs: ListOf::of(history),
-        }
+            pairs: ListOf::of(pairs),
+        })
     }
 }

@@ -1,16 +1,23 @@
 //! What a board does with its tasks.
 
 ghost use Rattle.std.specs.Prelude.{◌≡◌, ◌<◌, ◌≤◌, ◌↔◌, length, slice_index_or};
-ghost use Rattle.std.specs.Prelude.{IsTrue, MatchOption, OnErr, OnOk};
+ghost use Rattle.std.specs.Prelude.{IfOk, IsTrue, MatchOption, OnErr, OnOk};
 ghost use Rattle.std.specs.List.{All, Contains};
 ghost use Rattle.std.specs.List.Sorted.{IsStrictlyIncreasing};
-ghost use Rattle.summary_core.specs.Board.{IsClaimable, IsStale};
+ghost use Rattle.summary_core.specs.Board.{goals_of, IsClaimable, IsStale};
 ghost use Rattle.summary_core.specs.Events.{AddsNew};
 ghost use Rattle.summary_core.specs.Claiming.{HasSeen, IsFirstClaimable};
 
 use crate::task::{Stamp, Task};
 use matched_paths::Pair;
-use std::alloc::AllocError;
+use std::alloc::{AllocError, Global};
+
+/// The goals of the tasks.
+pub(crate) fn goals_among(alloc: Global, tasks: &[Task]) -> Result<Vec<u32>, AllocError>
+    ensures { IfOk result (λ goals. goals.items ≡ goals_of tasks.now) }
+{
+    tasks.iter().map(|task| task.goal).collect(alloc)
+}
 
 /// Where the task of the goal stands.
 pub(crate) fn place_of(tasks: &[Task], goal: u32) -> Option<usize>

@@ -1,6 +1,7 @@
 //! The closed table of summaries.
 
 ghost use Rattle.std.specs.Prelude.{◌≡◌};
+ghost use Rattle.std.specs.List.{All, Contains};
 ghost use Rattle.summary_core.specs.Table.{IsClosed};
 
 use joern_io::List;
@@ -53,9 +54,10 @@ impl Closed {
         &self.flow
     }
 
-    /// The starts for which the table was closed.
+    /// The starts for which the table was closed, which a search may begin at.
     pub fn starts(&self) -> &[u32]
         ensures starts { result.now ≡ self.now.starts }
+        ensures among { All (Contains self.now.starts) result.now }
         ensures closed { IsClosed self.now }
     {
         self.starts.items()

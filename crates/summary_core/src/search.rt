@@ -56,7 +56,8 @@ fn goals_met(alloc: Global, opens: &[Crossing], set: &VertexSet) -> Result<Vec<u
 
 /// What is found from the goal over the mirror's pairs.
 ///
-/// It takes time linear in the flow graph and the bridges.
+/// It takes time linear in the flow graph and in the opens to the goals of the pairs, each with
+/// the closes of its call.
 pub fn outs(
     alloc: Global,
     flow: &FlowGraph,

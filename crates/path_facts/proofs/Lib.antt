@@ -1,0 +1,5 @@
+pub mod Growing
+pub mod Following
+pub mod Tabulating
+pub mod Beginning
+pub mod Summing

@@ -1,0 +1,58 @@
+//! What stays the same while facts are found.
+
+ghost use Rattle.std.specs.Prelude.{ℕ, ◌≡◌, ◌↔◌, map, IfOk};
+ghost use Rattle.std.specs.List.{Contains};
+ghost use Rattle.matched_paths.specs.Edges.{IsOut, IsWithin};
+ghost use Rattle.path_facts.specs.Facts.{IsGround};
+
+use flow_index::{Chains, CrossingIndex, VertexSet};
+use matched_paths::FlowGraph;
+use std::alloc::{AllocError, Global};
+
+/// The flat edges of a flow graph by where they begin, its outs, and its crossings.
+#[derive(Drop)]
+pub(crate) struct Ground {
+    pub(crate) flat: Chains,
+    pub(crate) outs: VertexSet,
+    pub(crate) crossings: CrossingIndex,
+}
+
+/// The vertices from which closes leave.
+fn outs(alloc: Global, flow: &FlowGraph) -> Result<VertexSet, AllocError>
+    requires { IsWithin flow.now }
+    ensures { IfOk result (λ set. (vertex : ℕ) →
+        Contains set.met vertex ↔ IsOut flow.now vertex) }
+{
+    let mut set = VertexSet::new(alloc, flow.vertices)?;
+    for close in flow.closes.items() {
+        set.meet(close.from)?;
+    }
+    Ok(set)
+}
+
+/// The flat edges by where they begin.
+fn flat(alloc: Global, flow: &FlowGraph) -> Result<Chains, AllocError>
+    requires { IsWithin flow.now }
+    ensures count { IfOk result (λ chains. chains.count ≡ flow.now.vertices) }
+    ensures keys { IfOk result (λ chains. chains.keys ≡ map (λ edge. edge.0) flow.now.flat) }
+{
+    let keys: Vec<u32> = flow.flat.items().iter().map(|edge| edge.0).collect(alloc)?;
+    let chains = Chains::of(alloc, flow.vertices as usize, &keys)?;
+    Ok(chains)
+}
+
+impl Ground {
+    pub(crate) fn of(alloc: Global, flow: &FlowGraph) -> Result<Ground, AllocError>
+        requires { IsWithin flow.now }
+        ensures { IfOk result (IsGround flow.now) }
+    {
+        let flat = flat(alloc, flow)?;
+        let outs = outs(alloc, flow)?;
+        let crossings = CrossingIndex::of(alloc, flow)?;
+        Ok(Ground {
+            flat,
+            outs,
+            crossings,
+        })
+    }
+}

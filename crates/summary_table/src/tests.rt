@@ -1,0 +1,140 @@
+//! Flights over a board.
+
+ghost use Rattle.std.specs.Prelude.{◌≡◌, ◌≤◌, [], length, take, IfOk, MatchOption, OnOk};
+ghost use Rattle.matched_paths.specs.Edges.{IsWithin};
+ghost use Rattle.summary_core.specs.Events.{Flies};
+ghost use Rattle.summary_core.specs.Searches.{IsFoundOf};
+
+use crate::may_be_closed;
+use joern_io::List;
+use matched_paths::{Crossing, FlowGraph};
+use std::alloc::{AllocError, Global};
+use std::process::Abort;
+use std::sync::Arc;
+use std::test::Fail;
+use summary_core::{Board, Found, Goal, Mirror, outs};
+
+/// A goal in flight, and what was found from it.
+#[derive(Drop)]
+struct Flight {
+    goal: Goal,
+    found: Found,
+}
+
+/// A method that calls itself: from 1 and 3 to 2, and back from 2 to 3.
+fn calls_itself(alloc: Global) -> Result<FlowGraph, AllocError> {
+    let mut opens = Vec::new(alloc);
+    opens.push(Crossing {
+        call: 0,
+        from: 1,
+        to: 1,
+    })?;
+    let mut closes = Vec::new(alloc);
+    closes.push(Crossing {
+        call: 0,
+        from: 2,
+        to: 3,
+    })?;
+    Ok(FlowGraph {
+        vertices: 5,
+        flat: List::of(Vec::from_slice(alloc, &[(1, 2), (3, 2)])?),
+        opens: List::of(opens),
+        closes: List::of(closes),
+    })
+}
+
+/// The graph, and its board for the start 1.
+fn opened(alloc: Global) -> Result<(Arc<FlowGraph>, Board), Fail>
+    ensures within { IfOk result (λ both. IsWithin both.0.value) }
+    ensures flow { IfOk result (λ both. both.1.flow ≡ both.0.value) }
+    ensures history { IfOk result (λ both. both.1.history ≡ []) }
+{
+    let flow = calls_itself(alloc)?;
+    let starts = List::of(Vec::from_slice(alloc, &[1])?);
+    if !may_be_closed(&flow, starts.items()) {
+        return Err(Fail::from("an end is no vertex"));
+    }
+    let flow = Arc::new(alloc, flow)?;
+    let board = Board::new(alloc, flow.clone()?, starts)?;
+    Ok((flow, board))
+}
+
+/// Claims a goal, and searches from it over the whole history.
+fn take_off(
+    alloc: Global,
+    flow: &FlowGraph,
+    board: &mut Board,
+    mirror: &mut Mirror,
+) -> Result<Option<Flight>, AllocError>
+    requires within { IsWithin flow.now }
+    requires flow { board.old.flow ≡ flow.now }
+    requires front { mirror.old ≡ take (length mirror.old) board.old.history }
+    ensures flow { OnOk result (board.new.flow ≡ flow.now) }
+    ensures whole { OnOk result (mirror.new ≡ board.new.history) }
+    ensures flight { IfOk result (λ flight. MatchOption flight (Unit {0}) (λ f.
+        Flies board.new f.goal.vertex × (f.found.seen ≤ length board.new.history)
+        × IsFoundOf board.new.flow (take f.found.seen board.new.history) f.goal.vertex f.found)) }
+{
+    board.copy_tail(mirror)?;
+    let goal = match board.claim(mirror) {
+        Some(goal) => goal,
+        None => return Ok(None),
+    };
+    let found = outs(alloc, flow, mirror, goal)?;
+    Ok(Some(Flight { goal, found }))
+}
+
+/// Publishes what was found.
+fn land(board: &mut Board, mirror: &Mirror, flight: Flight) -> Result<(), AllocError>
+    requires flies { Flies board.old flight.goal.vertex }
+    requires seen { flight.found.seen ≤ length board.old.history }
+    requires found { IsFoundOf board.old.flow (take flight.found.seen board.old.history)
+        flight.goal.vertex flight.found }
+    requires whole { mirror.now ≡ board.old.history }
+    ensures flow { OnOk result (board.new.flow ≡ board.old.flow) }
+    ensures front { OnOk result (mirror.now ≡ take (length mirror.now) board.new.history) }
+{
+    let _ = mirror;
+    board.publish(flight.goal, flight.found)?;
+    Ok(())
+}
+
+/// The goal 1 leads to the out 2 and asks itself.
+fn check(rt: &impl Abort, flight: &Flight, seen: u64) {
+    assert_eq!(rt; flight.goal.vertex, 1);
+    assert_eq!(rt; flight.found.outs.items(), [2].as_slice());
+    assert_eq!(rt; flight.found.asked.items(), [1].as_slice());
+    assert_eq!(rt; flight.found.seen, seen);
+}
+
+#[test]
+fn a_goal_that_asks_itself_is_searched_twice(rt: HostRuntime) -> Result<(), Fail> {
+    let (flow, mut board) = opened(rt.alloc())?;
+    let mut mirror = Mirror::new(rt.alloc());
+    for seen in 0..2 {
+        let Some(flight) = take_off(rt.alloc(), &flow, &mut board, &mut mirror)? else {
+            return Err(Fail::from("no goal is dirty"));
+        };
+        check(&rt, &flight, seen);
+        land(&mut board, &mirror, flight)?;
+    }
+    let last = take_off(rt.alloc(), &flow, &mut board, &mut mirror)?;
+    assert!(rt; last.is_none());
+    assert_eq!(rt; mirror.pairs().len(), 1);
+    Ok(())
+}
+
+#[test]
+fn an_abandoned_goal_is_claimed_again(rt: HostRuntime) -> Result<(), Fail> {
+    let (_flow, mut board) = opened(rt.alloc())?;
+    let mirror = Mirror::new(rt.alloc());
+    let Some(goal) = board.claim(&mirror) else {
+        return Err(Fail::from("no goal is dirty"));
+    };
+    assert!(rt; board.in_flight(goal));
+    assert!(rt; board.claim(&mirror).is_none());
+    assert!(rt; board.in_flight(goal));
+    board.abandon(goal);
+    assert_eq!(rt; board.claim(&mirror), Some(goal));
+    Ok(())
+}
