@@ -1,4 +1,4 @@
--- A goal that was claimed is a goal, and flies; what was published leaves a front.
+-- A goal that was claimed is a goal, and flies; what was published or abandoned leaves a front.
 use Rattle.std.proofs.Common.{◌≡◌, ◌∙◌, ℕ, ◌≤◌, ◌==◌, if◌then◌else◌, List, ◌++◌, length, take, map, true, refl, sym, ap, subst, arith, eq-eqb}
 use Rattle.std.specs.List.{Contains}
 use Rattle.std.proofs.Math.Seq.{take-append_seam, take-length}
@@ -8,7 +8,7 @@ use Rattle.matched_paths.specs.Edges.{IsGoal}
 use Rattle.summary_core.specs.declared.found.Found.{Found}
 use Rattle.summary_core.specs.declared.task.Task.{Task}
 use Rattle.summary_core.specs.Board.{BoardState}
-use Rattle.summary_core.specs.Events.{Claims, Flies, Publishes}
+use Rattle.summary_core.specs.Events.{Abandons, Claims, Flies, Publishes}
 use Rattle.summary_core.specs.Searches.{IsFoundOf}
 use Rattle.summary_core.specs.Sound.{IsSound}
 use Rattle.summary_core.proofs.Lists.{Contains-map}
@@ -43,4 +43,10 @@ pub published_front : (board after : BoardState) (mirror : List Pair) (goal : �
 published_front board after mirror goal found whole publishes = (
   ap (λ (b : BoardState). b.flow) publishes.changes,
   whole ∙ (sym (take-append_seam board.history publishes.new) ∙ (ap (λ (ps : List Pair). take (length ps) (board.history ++ publishes.new)) (sym whole) ∙ ap (λ (ps : List Pair). take (length mirror) ps) (sym (ap (λ (b : BoardState). b.history) publishes.changes)))),
+)
+
+pub abandoned_front : (board after : BoardState) (mirror : List Pair) (goal : ℕ) → mirror ≡ board.history → Abandons board goal after → (after.flow ≡ board.flow) × (mirror ≡ take (length mirror) after.history)
+abandoned_front board after mirror goal whole abandons = (
+  ap (λ (b : BoardState). b.flow) abandons.changes,
+  whole ∙ (sym (take-length board.history) ∙ (ap (λ (ps : List Pair). take (length ps) board.history) (sym whole) ∙ ap (λ (ps : List Pair). take (length mirror) ps) (sym (ap (λ (b : BoardState). b.history) abandons.changes)))),
 )

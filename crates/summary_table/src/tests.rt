@@ -107,21 +107,67 @@ fn check(rt: &impl Abort, flight: &Flight, seen: u64) {
     assert_eq!(rt; flight.found.seen, seen);
 }
 
-#[test]
-fn a_goal_that_asks_itself_is_searched_twice(rt: HostRuntime) -> Result<(), Fail> {
-    let (flow, mut board) = opened(rt.alloc())?;
-    let mut mirror = Mirror::new(rt.alloc());
-    for seen in 0..2 {
-        let Some(flight) = take_off(rt.alloc(), &flow, &mut board, &mut mirror)? else {
+/// Gives up a flight, and what was found.
+fn turn_back(board: &mut Board, mirror: &Mirror, flight: Flight)
+    requires flies { Flies board.old flight.goal.vertex }
+    requires whole { mirror.now ≡ board.old.history }
+    ensures flow { board.new.flow ≡ board.old.flow }
+    ensures front { mirror.now ≡ take (length mirror.now) board.new.history }
+{
+    let _ = mirror;
+    board.abandon(flight.goal);
+}
+
+/// Publishes what was found, or gives it up.
+fn end_flight(
+    board: &mut Board,
+    mirror: &Mirror,
+    flight: Flight,
+    lands: bool,
+) -> Result<(), AllocError>
+    requires flies { Flies board.old flight.goal.vertex }
+    requires seen { flight.found.seen ≤ length board.old.history }
+    requires found { IsFoundOf board.old.flow (take flight.found.seen board.old.history)
+        flight.goal.vertex flight.found }
+    requires whole { mirror.now ≡ board.old.history }
+    ensures flow { OnOk result (board.new.flow ≡ board.old.flow) }
+    ensures front { OnOk result (mirror.now ≡ take (length mirror.now) board.new.history) }
+{
+    if lands {
+        land(board, mirror, flight)
+    } else {
+        turn_back(board, mirror, flight);
+        Ok(())
+    }
+}
+
+/// The flights from the goal 1, of which each sees so many pairs, and lands or turns back. After
+/// them no goal is dirty, and one pair stands.
+fn fly_all(rt: &impl Abort, alloc: Global, flights: &[(bool, u64)]) -> Result<(), Fail> {
+    let (flow, mut board) = opened(alloc)?;
+    let mut mirror = Mirror::new(alloc);
+    for plan in flights {
+        let Some(flight) = take_off(alloc, &flow, &mut board, &mut mirror)? else {
             return Err(Fail::from("no goal is dirty"));
         };
-        check(&rt, &flight, seen);
-        land(&mut board, &mirror, flight)?;
+        check(rt, &flight, plan.1);
+        end_flight(&mut board, &mirror, flight, plan.0)?;
     }
-    let last = take_off(rt.alloc(), &flow, &mut board, &mut mirror)?;
+    let last = take_off(alloc, &flow, &mut board, &mut mirror)?;
     assert!(rt; last.is_none());
     assert_eq!(rt; mirror.pairs().len(), 1);
     Ok(())
+}
+
+#[test]
+fn a_goal_that_asks_itself_is_searched_twice(rt: HostRuntime) -> Result<(), Fail> {
+    fly_all(&rt, rt.alloc(), &[(true, 0), (true, 1)])
+}
+
+#[test]
+fn every_second_flight_may_turn_back(rt: HostRuntime) -> Result<(), Fail> {
+    let flights = [(false, 0), (true, 0), (false, 1), (true, 1)];
+    fly_all(&rt, rt.alloc(), &flights)
 }
 
 #[test]
