@@ -8,6 +8,7 @@ pub mod Comments
 pub mod Marks
 pub mod Directives
 pub mod Spelling
+pub mod Lexemes
 pub mod Passing
 pub mod Reading
 pub mod Finds

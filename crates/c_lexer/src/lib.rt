@@ -16,8 +16,6 @@ mod marker;
 mod number;
 mod pair;
 mod source_text;
-#[cfg(test)]
-mod tests;
 mod token;
 mod word;
 mod word_table;

@@ -1,0 +1,4 @@
+pub mod ItemsAt
+pub mod Places
+pub mod TerminalsDiffer
+pub mod InScope

@@ -1,0 +1,4 @@
+pub mod Terminals
+pub mod Kept
+pub mod Cursors
+pub mod Reads

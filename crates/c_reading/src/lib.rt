@@ -1,0 +1,11 @@
+//! Reading the kept tokens of a C file one by one.
+#![tactic(auto)]
+
+mod cursor;
+mod kept;
+mod stop;
+#[cfg(test)]
+mod tests;
+
+pub use cursor::Cursor;
+pub use stop::Stop;

@@ -1,0 +1,17 @@
+pub mod Sets
+pub mod Cutting
+pub mod Predictive
+pub mod PredictiveThen
+pub mod PredictiveEither
+pub mod PredictiveSteps
+pub mod Words
+pub mod ExactThen
+pub mod ExactEither
+pub mod ReadBy
+pub mod ReadOne
+pub mod ReadThen
+pub mod ReadEither
+pub mod ReadSteps
+pub mod ReadTurns
+pub mod Knot
+pub mod Sample
