@@ -6,9 +6,4 @@ pub mod Lists
 pub mod Opening
 pub mod Fitting
 pub mod Example
-mod Firsts
-mod Hiding
-mod Intervals
-mod Numbers
-mod Stepping
 pub mod Formed

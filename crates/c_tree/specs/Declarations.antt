@@ -1,8 +1,8 @@
 -- The form of declarations, specifiers, declarators, type names and initialisers (C11 6.7), apart
 -- from names. The kind of each token is given.
 
-use Rattle.std.specs.Prelude.{ℕ, ◌+◌, ◌≡◌, ◌≢◌, ◌<◌, ◌⊎◌, Bool, true, false, List, Option, [], ◌∷◌}
-use Rattle.std.specs.Prelude.{Some, None, ◌++◌, length, All, Any, IsSome, IfSome, IfNone}
+use Rattle.std.specs.Prelude.{ℕ, ◌+◌, ◌≡◌, ◌≢◌, ◌⊎◌, Bool, true, false, List, Option, [], ◌∷◌}
+use Rattle.std.specs.Prelude.{Some, None, ◌++◌, length, All, Any, IsSome, IfSome}
 use Rattle.std.specs.Option.{MatchOption}
 use Rattle.c_lexer.specs.declared.token.Kind.{Kind}
 use Rattle.c_lexer.specs.declared.token.Kind.TheVariants as k
@@ -17,19 +17,19 @@ use Rattle.c_tree.specs.declared.tree.Spec.TheVariants as spec
 use Rattle.c_tree.specs.declared.tree.Enumerator.{Enumerator, out-Enumerator}
 use Rattle.c_tree.specs.declared.tree.Declarator.{Declarator, out-Declarator}
 use Rattle.c_tree.specs.declared.tree.Pointer.{Pointer}
-use Rattle.c_tree.specs.declared.tree.Core.{Core, out-Core}
-use Rattle.c_tree.specs.declared.tree.Suffix.{Suffix, out-Suffix}
+use Rattle.c_tree.specs.declared.tree.Core.{out-Core}
+use Rattle.c_tree.specs.declared.tree.Suffix.{out-Suffix}
 use Rattle.c_tree.specs.declared.tree.Param.{Param, out-Param}
-use Rattle.c_tree.specs.declared.tree.Init.{Init, out-Init}
+use Rattle.c_tree.specs.declared.tree.Init.{out-Init}
 use Rattle.c_tree.specs.declared.tree.InitItem.{InitItem}
-use Rattle.c_tree.specs.declared.tree.Designator.{Designator, out-Designator}
+use Rattle.c_tree.specs.declared.tree.Designator.{out-Designator}
 use Rattle.c_tree.specs.declared.tree.InitDeclarator.{InitDeclarator, out-InitDeclarator}
-use Rattle.c_tree.specs.declared.tree.Declaration.{Declaration, out-Declaration}
+use Rattle.c_tree.specs.declared.tree.Declaration.{Declaration}
 use Rattle.c_tree.specs.declared.tree.BaseForm.TheOpen as o
 use Rattle.c_tree.specs.Folds.{OpenSpec, OpenCore, OpenSuffix, OpenInit, OpenDesignator}
 use Rattle.c_tree.specs.Folds.{OpenDeclaration}
 use Rattle.c_tree.specs.Shape.{Inner, HasMarks, HasBraces, HasOneFor, bracketed, ended}
-use Rattle.c_tree.specs.Expressions.{IsExpr, IsSingle, IsConstant}
+use Rattle.c_tree.specs.Expressions.{IsSingle, IsConstant}
 
 -- A type specifier (6.7.2).
 abbrev pub IsTypeSpecifier : OpenSpec → Type 0

@@ -6,8 +6,6 @@ use Rattle.c_lexer.specs.declared.token.Kind.{Kind}
 use Rattle.c_tree.specs.declared.tree.Expr.{Expr}
 use Rattle.c_tree.specs.declared.tree.TypeName.{TypeName}
 use Rattle.c_tree.specs.declared.tree.Declaration.{Declaration, out-Declaration}
-use Rattle.c_tree.specs.declared.tree.Declarator.{Declarator}
-use Rattle.c_tree.specs.declared.tree.Specs.{Specs}
 use Rattle.c_tree.specs.Shape.{Inner}
 use Rattle.c_tree.specs.Expressions.{IsAssign, IsExpr}
 use Rattle.c_tree.specs.Declarations.{IsTypeName, IsItem, IsDeclarator, IsMember, IsDeclaration}

@@ -13,9 +13,9 @@ use Rattle.c_tree.specs.declared.tree.Binary.{Binary, out-Binary}
 use Rattle.c_tree.specs.declared.tree.Prefixed.{Prefixed}
 use Rattle.c_tree.specs.declared.tree.Prefix.{Prefix, out-Prefix}
 use Rattle.c_tree.specs.declared.tree.Base.{Base}
-use Rattle.c_tree.specs.declared.tree.BaseForm.{BaseForm, out-BaseForm}
+use Rattle.c_tree.specs.declared.tree.BaseForm.{out-BaseForm}
 use Rattle.c_tree.specs.declared.tree.BaseForm.TheOpen as o
-use Rattle.c_tree.specs.declared.tree.Post.{Post, out-Post}
+use Rattle.c_tree.specs.declared.tree.Post.{out-Post}
 use Rattle.c_tree.specs.Folds.{OpenPrefix, OpenBaseForm, OpenPost}
 use Rattle.c_tree.specs.Shape.{Inner, HasMarks, HasBraces, bracketed}
 

@@ -1,23 +1,22 @@
 -- Faults of jumps, and second definitions of a function, in a file that the syntax accepts (C11
 -- 6.8.1, 6.8.4.2, 6.8.6, 6.9). Each blames a token.
 
-use Rattle.std.specs.Prelude.{ℕ, ◌≡◌, ◌≢◌, ◌≤◌, Bool, true, false, ◌||◌, List, Option, Some, None}
-use Rattle.std.specs.Prelude.{[], ◌∷◌, ◌++◌, drop, map, slice_get, if◌then◌else◌, Contains, IsSome}
+use Rattle.std.specs.Prelude.{ℕ, ◌≡◌, ◌≤◌, Bool, true, false, ◌||◌, List, Option, Some, None}
+use Rattle.std.specs.Prelude.{[], ◌∷◌, ◌++◌, drop, map, slice_get, Contains}
 use Rattle.std.specs.List.{flat_map}
 use Rattle.c_lexer.specs.declared.token.Kind.{Kind}
 use Rattle.c_tree.specs.declared.tree.Unit.{Unit}
 use Rattle.c_tree.specs.declared.tree.Item.{Item}
 use Rattle.c_tree.specs.declared.tree.Item.TheVariants as item
-use Rattle.c_tree.specs.declared.tree.Declarator.{Declarator}
 use Rattle.c_tree.specs.declared.tree.Block.{Block}
 use Rattle.c_tree.specs.declared.tree.Expr.{Expr}
 use Rattle.c_tree.specs.declared.tree.Mark.{Mark}
 use Rattle.c_tree.specs.declared.tree.Mark.TheVariants as mark
 use Rattle.c_tree.specs.declared.tree.BlockItem.TheOpen as s
-use Rattle.c_tree.specs.Folds.{StmtSteps, BlockItemLevel, StmtKindLevel, StmtLevel, block_fold}
+use Rattle.c_tree.specs.Folds.{StmtSteps, BlockItemLevel, StmtKindLevel, block_fold}
 use Rattle.c_tree.specs.Folds.{declarator_fold}
 use Rattle.c_tree.specs.Lexemes.{Lexeme, kind_at, spelling_at}
-use Rattle.c_tree.specs.TreeEvents.{Met, tree_steps}
+use Rattle.c_tree.specs.TreeEvents.{tree_steps}
 use Rattle.c_tree.specs.Units.{IsUnitOf}
 
 -- What is wrong with a token.

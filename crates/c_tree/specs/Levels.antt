@@ -1,6 +1,6 @@
 -- How deep a token stands (ours).
 
-use Rattle.std.specs.Prelude.{ℕ, zero, suc, ◌+◌, ◌-◌, ◌<◌, ◌≤◌, ◌==◌, ◌||◌, ◌&&◌, Bool, true, false}
+use Rattle.std.specs.Prelude.{ℕ, ◌+◌, ◌-◌, ◌<◌, ◌≤◌, ◌==◌, ◌||◌, ◌&&◌, Bool, true, false}
 use Rattle.std.specs.Prelude.{List, Option, Some, None, [], ◌∷◌, ◌++◌, map, sum, length, take, All}
 use Rattle.std.specs.Prelude.{count_by, if◌then◌else◌}
 use Rattle.std.specs.List.{flat_map, list_any}
@@ -15,15 +15,13 @@ use Rattle.c_tree.specs.declared.tree.Unit.{Unit}
 use Rattle.c_tree.specs.declared.tree.Item.{Item}
 use Rattle.c_tree.specs.declared.tree.Item.TheVariants as item
 use Rattle.c_tree.specs.declared.tree.Expr.{Expr}
-use Rattle.c_tree.specs.declared.tree.TypeName.{TypeName}
-use Rattle.c_tree.specs.declared.tree.Declaration.{Declaration}
 use Rattle.c_tree.specs.declared.tree.Stmt.{Stmt}
 use Rattle.c_tree.specs.declared.tree.BlockItem.TheOpen as s
 use Rattle.c_tree.specs.Folds.{StmtSteps, BlockItemLevel, StmtKindLevel, block_fold, stmt_fold}
 use Rattle.c_tree.specs.Spell.{Symbols, expr_spelling, declaration_spelling, label_spelling}
 use Rattle.c_tree.specs.Spell.{for_init_spelling}
 use Rattle.c_tree.specs.Lexemes.{Lexeme, IsLexeme, kind_at}
-use Rattle.c_tree.specs.Scopes.{OpenScopes}
+use Rattle.c_scopes.specs.Scopes.{OpenScopes}
 use Rattle.c_tree.specs.Units.{Grammar, IsTreeOf}
 
 -- The highest level that a token may have.

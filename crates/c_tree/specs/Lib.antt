@@ -4,11 +4,7 @@ pub mod Fits
 pub mod Forms
 pub mod Weights
 pub mod Walk
-pub mod Names
-pub mod Scopes
-pub mod KeptScopes
 pub mod Lexemes
-pub mod Events
 pub mod Shape
 pub mod Expressions
 pub mod Declarations

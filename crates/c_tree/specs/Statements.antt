@@ -7,18 +7,17 @@ use Rattle.std.specs.Prelude.{Some, None, [], ◌∷◌, ◌++◌, length, All, 
 use Rattle.std.specs.Option.{MatchOption}
 use Rattle.c_lexer.specs.declared.token.Kind.{Kind}
 use Rattle.c_tree.specs.declared.tree.Expr.{Expr}
-use Rattle.c_tree.specs.declared.tree.Declaration.{Declaration}
 use Rattle.c_tree.specs.declared.tree.Block.{Block}
-use Rattle.c_tree.specs.declared.tree.BlockItem.{BlockItem, out-BlockItem}
+use Rattle.c_tree.specs.declared.tree.BlockItem.{out-BlockItem}
 use Rattle.c_tree.specs.declared.tree.BlockItem.TheOpen as s
 use Rattle.c_tree.specs.declared.tree.Stmt.{Stmt}
-use Rattle.c_tree.specs.declared.tree.StmtKind.{StmtKind, out-StmtKind}
+use Rattle.c_tree.specs.declared.tree.StmtKind.{out-StmtKind}
 use Rattle.c_tree.specs.declared.tree.Mark.{Mark}
 use Rattle.c_tree.specs.declared.tree.Mark.TheVariants as mark
 use Rattle.c_tree.specs.declared.tree.ForInit.{ForInit}
 use Rattle.c_tree.specs.declared.tree.ForInit.TheVariants as for_init
 use Rattle.c_tree.specs.Folds.{OpenBlockItem, OpenStmtKind}
-use Rattle.c_tree.specs.Folds.{StmtSteps, StmtKindLevel, stmt_fold}
+use Rattle.c_tree.specs.Folds.{StmtKindLevel, stmt_fold}
 use Rattle.c_tree.specs.Shape.{HasMarks}
 use Rattle.c_tree.specs.Expressions.{IsConstant}
 use Rattle.c_tree.specs.Depths.{inner_to, IsFormedExpr, IsFormedDeclaration}

@@ -14,10 +14,8 @@ use Rattle.c_tree.specs.declared.tree.Item.{Item}
 use Rattle.c_tree.specs.declared.tree.Item.TheVariants as item
 use Rattle.c_tree.specs.declared.tree.Declaration.{Declaration}
 use Rattle.c_tree.specs.declared.tree.Declarator.{Declarator}
-use Rattle.c_tree.specs.declared.tree.Specs.{Specs}
 use Rattle.c_tree.specs.declared.tree.Expr.{Expr}
 use Rattle.c_tree.specs.declared.tree.TypeName.{TypeName}
-use Rattle.c_tree.specs.declared.tree.Pointer.{Pointer}
 use Rattle.c_tree.specs.declared.tree.Block.{Block}
 use Rattle.c_tree.specs.declared.tree.Stmt.{Stmt}
 use Rattle.c_tree.specs.declared.tree.Mark.{Mark}
@@ -32,8 +30,8 @@ use Rattle.c_tree.specs.Folds.{SuffixLevel, DeclaratorLevel, InitDeclaratorLevel
 use Rattle.c_tree.specs.Folds.{BlockItemLevel, StmtKindLevel}
 use Rattle.c_tree.specs.Folds.{declaration_fold, declarator_fold, specs_fold, expr_fold}
 use Rattle.c_tree.specs.Folds.{type_name_fold, block_fold, stmt_fold}
-use Rattle.c_tree.specs.Events.{Event}
-use Rattle.c_tree.specs.Events.{Opens, Closes, Declares, Uses}
+use Rattle.c_scopes.specs.Events.{Event}
+use Rattle.c_scopes.specs.Events.{Opens, Closes, Declares, Uses}
 
 abbrev pub Events : Type 0
 Events = List Event

@@ -1,6 +1,6 @@
 -- The form of files (C11 6.9), and which lists of lexemes have a tree.
 
-use Rattle.std.specs.Prelude.{ℕ, ◌+◌, ◌-◌, ◌≡◌, List, Option, Some, [], ◌∷◌, ◌++◌, length, All}
+use Rattle.std.specs.Prelude.{ℕ, ◌-◌, List, Option, All}
 use Rattle.std.specs.Prelude.{true}
 use Rattle.c_lexer.specs.declared.token.Kind.{Kind}
 use Rattle.c_tree.specs.declared.tree.Unit.{Unit}
@@ -17,11 +17,11 @@ use Rattle.c_tree.specs.Spell.{Symbols, unit_spelling, expr_spelling, type_name_
 use Rattle.c_tree.specs.Spell.{declaration_spelling, stmt_spelling}
 use Rattle.c_tree.specs.Fits.{FitFrom}
 use Rattle.c_tree.specs.Lexemes.{Lexeme, kinds_in, kind_at, spelling_at}
-use Rattle.c_tree.specs.Scopes.{OpenScopes, file_scope}
+use Rattle.c_scopes.specs.Scopes.{OpenScopes, file_scope}
 use Rattle.c_tree.specs.Declarations.{IsSpecs, IsDeclarator, Definition}
 use Rattle.c_tree.specs.Depths.{inner_to, IsFormedExpr, IsFormedTypeName, IsFormedDeclaration}
 use Rattle.c_tree.specs.Statements.{IsFormedStmt, IsFormedBlock}
-use Rattle.c_tree.specs.Events.{Event, AreRight, events_to}
+use Rattle.c_scopes.specs.Events.{Event, AreRight, events_to}
 use Rattle.c_tree.specs.TreeEvents.{expr_events, type_name_events, declaration_events, stmt_events}
 use Rattle.c_tree.specs.TreeEvents.{unit_events, DeclaresFunction}
 

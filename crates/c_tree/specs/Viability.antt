@@ -1,9 +1,9 @@
 -- Which lists of lexemes begin a tree, and which token offends: the first with which they begin
 -- none (ours). It is said of lists alone, and no text need stand behind one.
 
-use Rattle.std.specs.Prelude.{ℕ, ◌+◌, ◌≡◌, ◌≤◌, ◌<◌, List, [], ◌∷◌, ◌++◌, take, length, All}
+use Rattle.std.specs.Prelude.{ℕ, ◌+◌, ◌≡◌, ◌≤◌, ◌<◌, List, ◌++◌, take, length, All}
 use Rattle.c_tree.specs.Lexemes.{Lexeme, IsLexeme}
-use Rattle.c_tree.specs.Scopes.{OpenScopes, file_scope}
+use Rattle.c_scopes.specs.Scopes.{OpenScopes, file_scope}
 use Rattle.c_tree.specs.Units.{Grammar, IsTreeOf, IsAccepted, units}
 
 module _ {Tree : Type 0} (grammar : Grammar Tree) (open_scopes : OpenScopes) (begin : ℕ) where

@@ -1,14 +1,12 @@
 //! What holds of all trees.
 
-ghost use Rattle.std.specs.Prelude.{◌≡◌, ◌↔◌, ◌++◌, ℕ, Some, length, slice_get};
+ghost use Rattle.std.specs.Prelude.{◌≡◌, ℕ, Some, length, slice_get};
 ghost use Rattle.std.specs.Prelude.{List as list_of};
 ghost use Rattle.c_lexer.specs.declared.token.Kind.{Kind};
 ghost use Rattle.c_tree.specs.declared.symbol.Symbol.{Symbol};
 ghost use Rattle.c_tree.specs.declared.tree.Unit.{Unit};
 ghost use Rattle.c_tree.specs.Fits.{Fits, Spells};
 ghost use Rattle.c_tree.specs.Spell.{unit_spelling};
-ghost use Rattle.c_tree.specs.Scopes.{OpenScopes, Leaves, IsTypedefName};
-ghost use Rattle.c_tree.specs.Events.{Event, IsTypedefAt, left, after_events, events_to};
 
 /// Where a tree spells tokens, its symbols are as many as they, and symbol i has token i, which is
 /// what it wants.
@@ -18,14 +16,4 @@ pub fn law_symbol_i_has_token_i()
     ensures each { (unit : Unit) (kinds : list_of Kind) → Spells unit kinds →
         (i : ℕ) (symbol : Symbol) (kind : Kind) → slice_get (unit_spelling unit) i ≡ Some symbol →
         slice_get kinds i ≡ Some kind → (symbol.token ≡ i) × Fits symbol.want kind }
-{}
-
-/// What the open scopes say of a name, behind some events, is what the intervals of its
-/// declarations say; and the scopes that `leave` leaves are those behind the end of a scope.
-pub fn law_scopes_say_what_intervals_say()
-    ensures typedef_names { (open_scopes : OpenScopes) →
-        (before : list_of Event) (name : list_of ℕ) →
-        IsTypedefName (after_events open_scopes before) name
-        ↔ IsTypedefAt (events_to open_scopes ++ before) name }
-    ensures leaves { (old new : OpenScopes) → Leaves old new → new ≡ left old }
 {}

@@ -1,7 +1,7 @@
 -- The first grammar. Ours: of C11 (6.5 to 6.9) it has functions without parameters, of which the
 -- statements are sums and assignments of names and numbers.
 
-use Rattle.std.specs.Prelude.{ℕ, ◌≡◌, ◌⊎◌, List, [], ◌∷◌, length, map, Option, Some, None}
+use Rattle.std.specs.Prelude.{ℕ, ◌≡◌, ◌⊎◌, List, [], length, map, Option, Some, None}
 use Rattle.std.specs.Prelude.{slice_get, slice_range}
 use Rattle.std.specs.List.{All}
 use Rattle.c_lexer.specs.declared.token.Kind.{Kind}

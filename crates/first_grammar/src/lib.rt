@@ -8,8 +8,6 @@ mod functions;
 pub mod laws;
 mod names;
 mod stop;
-#[cfg(test)]
-mod tests;
 mod unit;
 
 pub use stop::GrammarStop;

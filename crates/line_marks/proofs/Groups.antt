@@ -5,7 +5,9 @@ use Rattle.c_lexer.specs.declared.token.Kind.TheVariants.{Mark}
 use Rattle.c_lexer.specs.declared.token.Token.{Token}
 use Rattle.line_marks.specs.Balance.{AreBalanced, Closes, IsBracket, IsGroup, kind_at}
 use Rattle.line_marks.specs.Balance.AreBalanced.{none, plain, group}
-use Rattle.line_marks.specs.Stripping.{EndsBalance, IsBalancedTo}
+use Rattle.line_marks.specs.Stripping.{EndsBalance, IsBalancedTo, MayDropGroup}
+use Rattle.std.specs.List.{All}
+use Rattle.std.proofs.lemmas.List.Elements.{All-head, All-tail}
 
 -- A kind that brackets have, as a fact of the token.
 bracket_is : (k j : Kind) → k ≡ j → IsBracket j → IsBracket k
@@ -144,3 +146,12 @@ no_group_at tokens at end o c h opens closes apart to g =
     let first = mark_once tokens at g.opening o g.opens opens in
     let last = mark_once tokens end g.closing c (group_closed tokens at end to h g) closes in
     apart (subst (λ m. Closes m c) first (subst (λ m. Closes g.opening m) last g.pair))
+
+-- No token may be dropped with a group, so none at a position.
+pub not_dropped_at : (tokens : List Token) (at : ℕ) (k : Kind) → All (λ (token : Token). ¬ MayDropGroup token.kind) tokens → kind_at tokens at ≡ Some k → ¬ MayDropGroup k
+unfolding kind_at
+not_dropped_at [] at k all e = absurd (cc)
+not_dropped_at (x ∷ tokens) zero k all e = λ may.
+    let same : k ≡ x.kind = cc in
+    All-head (λ (token : Token). ¬ MayDropGroup token.kind) x tokens all (subst MayDropGroup same may)
+not_dropped_at (x ∷ tokens) (suc at) k all e = not_dropped_at tokens at k (All-tail (λ (token : Token). ¬ MayDropGroup token.kind) x tokens all) e

@@ -5,12 +5,9 @@ mod balance;
 mod file_names;
 mod kept;
 pub mod laws;
-mod name_key;
 mod place;
 mod stop;
 mod stripping;
-#[cfg(test)]
-mod tests;
 
 pub use kept::item_at;
 pub use place::{Place, Places, places_of};

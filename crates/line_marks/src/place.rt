@@ -10,7 +10,6 @@ ghost use Rattle.line_marks.specs.Naming.{IsBehind, names_of};
 ghost use Rattle.line_marks.specs.Presumed.{ArePlacesOf};
 
 use crate::file_names::FileNames;
-use crate::name_key::hashes_of;
 use c_lexer::{Kind, SourceText, Token, marker_of};
 use joern_io::{Bytes, List};
 use std::alloc::{AllocError, Global};
@@ -56,13 +55,12 @@ impl Presumption {
 }
 
 /// What is presumed behind a line marker.
-fn behind<'b>(
-    files: &mut FileNames<'b>,
+fn behind(
+    files: &mut FileNames,
     before: Presumption,
-    text: SourceText<'b>,
+    text: SourceText<'_>,
     token: &Token,
 ) -> Result<Presumption, AllocError>
-    requires few { length (names_of files.old) + 1 < 2 ^ 32 }
     requires line { token.now.line ≤ length text.bytes.now + 1 }
     requires marker { IsLineMarker text.bytes.now token.now.start token.now.end }
     ensures { IfOk result (λ after.
@@ -97,7 +95,7 @@ pub fn places_of(
         ArePlacesOf text.entry.bytes.now tokens.now name.now places.places places.files) }
     ensures one_each { IfOk result (λ places. length places.places ≡ length tokens.now) }
 {
-    let mut files = FileNames::new(alloc, hashes_of(text, tokens)?);
+    let mut files = FileNames::new(alloc);
     let file = files.mention(name.as_bytes())?;
     let mut presumption = Presumption {
         file,
@@ -113,6 +111,6 @@ pub fn places_of(
     }
     Ok(Places {
         places: List::of(places),
-        files: files.to_files(alloc)?,
+        files: files.to_files()?,
     })
 }

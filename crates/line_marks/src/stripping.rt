@@ -5,19 +5,21 @@
 //! markers and pragmas.
 
 ghost use Rattle.std.specs.Prelude.{ℕ, ◌≡◌, ◌<◌, ◌≤◌, ◌^◌, ◌↔◌, List, length};
-ghost use Rattle.std.specs.Prelude.{IfOk, IfSome, IsErr, IsErrOf, IsOkUnless, IsTrue};
+ghost use Rattle.std.specs.Prelude.{IfOk, IfSome, IsErr, IsErrOf, IsOkUnless, IsTrue, not};
+ghost use Rattle.std.specs.List.{All};
 ghost use Rattle.c_lexer.specs.Finds.{Finds};
 ghost use Rattle.line_marks.specs.Balance.{kind_at};
 ghost use Rattle.line_marks.specs.Kept.{AreKept, AreParens, IsAbsent, MayEndDeclarator};
 ghost use Rattle.line_marks.specs.Kept.{StopsStripping};
-ghost use Rattle.line_marks.specs.Stripping.{AreBalancedTo, IsTreatment};
+ghost use Rattle.line_marks.specs.Stripping.{AreBalancedTo, HasEndsForGroups};
+ghost use Rattle.line_marks.specs.Stripping.{IsTreatment, MayDropGroup};
 
 use crate::balance::{balanced_ends, group_from, kind_at};
 use crate::stop::StripStop;
 use c_lexer::keyword::{KEY_ASM, KEY_ATTRIBUTE, KEY_EXTENSION};
 use c_lexer::mark::{MARK_LEFT_PAREN, MARK_RIGHT_BRACKET, MARK_RIGHT_PAREN};
 use c_lexer::{Kind, Token};
-use std::alloc::Global;
+use std::alloc::{AllocError, Global};
 
 /// What is done with a token.
 #[derive(Clone, Copy, Debug, PartialEq, Eq)]
@@ -76,7 +78,7 @@ fn treatment_at(
     kind: Kind,
 ) -> Treatment
     requires few { length tokens.now < 2 ^ 32 }
-    requires ends { AreBalancedTo tokens.now ends.now }
+    requires ends { MayDropGroup kind → AreBalancedTo tokens.now ends.now }
     requires token { kind_at tokens.now at ≡ Some kind }
     ensures { IsTreatment tokens.now before at kind result }
 {
@@ -93,6 +95,38 @@ fn treatment_at(
             None => Treatment::Keep,
         },
         _ => Treatment::Keep,
+    }
+}
+
+/// Whether a token of this kind may be dropped with parentheses behind it.
+fn may_drop_group(kind: Kind) -> bool
+    ensures { IsTrue result ↔ MayDropGroup kind }
+{
+    matches!(kind, Kind::Key(KEY_ATTRIBUTE | KEY_ASM))
+}
+
+/// Whether there is a token that may be dropped with parentheses behind it.
+fn may_drop_groups(tokens: &[Token]) -> bool
+    ensures { IsTrue (not result) → All (λ token. ¬ MayDropGroup token.kind) tokens.now }
+{
+    for token in tokens {
+        if may_drop_group(token.kind) {
+            return true;
+        }
+    }
+    false
+}
+
+/// Where the longest balanced text ends that begins at each position, and nothing where no token
+/// asks for it, as in most files without headers.
+fn needed_ends(alloc: Global, tokens: &[Token]) -> Result<Vec<u32>, AllocError>
+    requires { length tokens.now < 2 ^ 32 }
+    ensures { IfOk result (λ ends. HasEndsForGroups tokens.now ends.items) }
+{
+    if may_drop_groups(tokens) {
+        balanced_ends(alloc, tokens)
+    } else {
+        Ok(Vec::new(alloc))
     }
 }
 
@@ -113,7 +147,7 @@ pub fn strip(alloc: Global, tokens: &[Token]) -> Result<Vec<u32>, StripStop>
     ensures accepts { (kept : List ℕ) → AreKept tokens.now kept →
         IsOkUnless result StripStop.Memory }
 {
-    let ends = balanced_ends(alloc, tokens)?;
+    let ends = needed_ends(alloc, tokens)?;
     let mut kept = Vec::new(alloc);
     let mut before = None;
     let mut at = 0;

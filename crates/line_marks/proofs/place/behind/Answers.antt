@@ -1,9 +1,8 @@
-use Rattle.std.proofs.Common.{ℕ, ◌≡◌, ◌+◌, [], List, Option, Some, None, length, refl, sym, subst, ap, arith}
+use Rattle.std.proofs.Common.{ℕ, ◌≡◌, ◌+◌, [], List, Option, Some, None, refl, sym, subst, ap}
 use Rattle.std.specs.Borrow.{Bor}
 use Rattle.c_lexer.specs.Directives.{IsMarkerOf}
 use Rattle.c_lexer.specs.Scanning.{name_of}
 use Rattle.c_lexer.specs.declared.token.Token.{Token}
-use Rattle.line_marks.specs.declared.file_names.FileNames.{FileNames}
 use Rattle.line_marks.specs.declared.place.Presumption.{Presumption}
 use Rattle.line_marks.specs.Naming.{IsBehind, Mentions, names_of}
 use Rattle.line_marks.specs.Presumed.{AddsNames}
@@ -22,7 +21,6 @@ module _ (bytes : List ℕ) (token : Token) (files more : List (List ℕ)) (befo
     from = refl;
     line = refl;
     small = marker.line_number.small;
-    few = mentions.few;
   }
 
   without_name : said ≡ None → more ≡ files → file ≡ before.file →
@@ -35,7 +33,6 @@ module _ (bytes : List ℕ) (token : Token) (files more : List (List ℕ)) (befo
     from = refl;
     line = refl;
     small = marker.line_number.small;
-    few = let e = ap (λ (names : List (List ℕ)). length names) same in omega (arith, e);
   }
 
 pub returns : goal.returns

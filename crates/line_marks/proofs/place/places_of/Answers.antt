@@ -6,7 +6,7 @@ use Rattle.c_lexer.specs.declared.token.Token.{Token}
 use Rattle.line_marks.specs.declared.place.Presumption.{Presumption}
 use Rattle.line_marks.specs.Naming.{Mentions, names_of}
 use Rattle.line_marks.specs.Presumed.{AddsNames}
-use Rattle.line_marks.proofs.Tokens.{few_tokens, line_small, marker_is, token_is}
+use Rattle.line_marks.proofs.Tokens.{line_small, marker_is, token_is}
 use Rattle.line_marks.proofs.Walk.{walked_as, walked_marker, walked_none, walked_other}
 use Rattle.line_marks.proofs.place.places_of.Goals as goal
 use Rattle.line_marks.proofs.place.places_of.Goals.{then-eq+in_ok-presumption, else-eq}
@@ -25,13 +25,10 @@ loop-token-init c =
     let mentions = subst (λ n. Mentions (names_of c.new-files.result) names n file) first c.in_ok-file.ensures in
     let added = subst (λ old. AddsNames old (name ∷ []) names) c.new-files.ensures mentions.added in
     let start : Presumption = record { file = file; from = 1; line = 1 } in
-    let few = mentions.few in
-    let none = ap length c.new-files.ensures in
     record {
       walked = walked_as bytes name [] [] [] c.new-places.result.items names names start start
           (walked_none bytes name names file added mentions.stands) refl c.new-places.ensures.items refl refl;
       one_each = grind (arith, common_steps);
-      few = omega (arith, none);
       small = omega arith;
     }
 
@@ -40,9 +37,6 @@ place_of-requires c =
     let token = token_is c.args.text.bytes.now c.args.tokens.now c.loop-token.token-index blank c.requires.tokens c.loop-token-test.true in
     let low = line_small c.args.text.bytes.now (get_or c.args.tokens.now c.loop-token.token-index blank) token in
     omega arith
-
-pub behind-requires-clause-few : goal.behind-requires-clause-few
-behind-requires-clause-few c = let few = few_tokens c.args.text.bytes.now c.args.tokens.now c.requires.tokens in omega arith
 
 pub behind-requires-clause-line : goal.behind-requires-clause-line
 behind-requires-clause-line c =
@@ -70,19 +64,16 @@ loop-token-preserved c =
     let decides : IsTrue c.eq.result ↔ (t.kind ≡ Line) = search rules in
     let grown = c.in_ok-push.ensures.items in
     let one_each : length c.push.new.self.items ≡ i + 1 = grind (arith, common_steps) in
-    let few = c.loop-token.invariant.few in
     elim c.if-eq.branch [
       | then-eq+in_ok-presumption w ↦
           let after = w.in_ok-presumption.presumption in
           let b = w.in_ok-presumption.ensures in
           let step = walked_marker bytes name (take i tokens) places files w.behind.new.files before after t c.place_of.result
           c.loop-token.invariant.walked (decides.0 w.if-eq.true) b c.place_of.ensures.file c.place_of.ensures.line in
-          let more_names = b.few in
           let small = b.small in
           record {
             walked = walked_as bytes name _ _ _ _ _ _ after c.if-eq.presumption step more grown (ap (λ set. names_of set) w.files-is) w.presumption-is;
             one_each = one_each;
-            few = rw w.files-is (omega arith);
             small = rw w.presumption-is small;
           }
       | else-eq w ↦
@@ -92,7 +83,6 @@ loop-token-preserved c =
           record {
             walked = walked_as bytes name _ _ _ _ _ _ before c.if-eq.presumption step more grown (ap (λ set. names_of set) w.files-is) w.presumption-is;
             one_each = one_each;
-            few = rw w.files-is (omega arith);
             small = rw w.presumption-is c.loop-token.invariant.small;
           }
     ]

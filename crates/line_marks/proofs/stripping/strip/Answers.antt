@@ -50,3 +50,7 @@ pub returns-clause-ok : goal.returns-clause-ok
 returns-clause-ok c =
     kept_to c.args.tokens.now c.loop-kind.kept.items c.loop-kind.at (sym c.in_default.ensures.kind)
     (c.loop-kind.invariant [] c.loop-kind.at (kept.Strips.ends (sym c.in_default.ensures.kind)))
+
+pub treatment_at-requires-clause-ends : goal.treatment_at-requires-clause-ends
+treatment_at-requires-clause-ends c = λ may.
+    rw c.deref.ensures.value (c.in_ok-ends.ensures.known c.loop-kind.at c.in-Some.kind (sym c.in-Some.ensures.kind) may)

@@ -1,17 +1,23 @@
-use Rattle.std.proofs.Common.{ℕ, ◌∷◌, [], List, sym, subst, map, arith}
-use Rattle.std.specs.Borrow.{Bor}
-use Rattle.line_marks.specs.Presumed.{AddsNames}
-use Rattle.line_marks.proofs.Names.{adds_few, name_added, name_stored}
+use Rattle.std.proofs.Common.{ℕ, List, Ok, Err, Result}
+use Rattle.std.specs.Prelude.{IfOk, Contains}
+use Rattle.std.specs.declared.alloc.AllocError.{AllocError}
+use Rattle.name_table.specs.Names.{AddsName}
+use Rattle.line_marks.specs.Naming.{Mentions}
+use Rattle.line_marks.proofs.Names.{mentions_known, mentions_new}
 use Rattle.line_marks.proofs.file_names.FileNames.mention.Goals as goal
 
-pub returns : goal.returns
-returns c =
-    let names : List (Bor (List ℕ)) → List (List ℕ) = λ keys. map (λ (name : Bor (List ℕ)). name.now) keys in
-    let h = c.in_ok-position.ensures.stored in
-    let added = subst (λ keys. AddsNames (names c.args.self.now.set.keys) (c.args.name.now ∷ []) (names keys)) (sym c.in_ok-position.ensures.keys)
-    (name_added c.args.self.now.set.keys c.args.name) in
-    record {
-      added = added;
-      stands = name_stored c.insert_full.new.self.keys c.in_ok-position.position c.args.name h.0 h.1 h.2;
-      few = adds_few (names c.args.self.now.set.keys) (names c.insert_full.new.self.keys) (c.args.name.now ∷ []) added;
-    }
+pub returns-in-Some : goal.returns-in-Some
+returns-in-Some c =
+    mentions_known c.args.self.now.names c.args.name.now c.in-Some.number
+    c.in-Some.ensures.number.stands
+
+added : (old new : List (List ℕ)) (name : List ℕ) (result : Result ℕ AllocError) →
+    IfOk result (λ number. AddsName old new name number) → ¬ Contains old name →
+    IfOk result (λ position. Mentions old new name position)
+added old new name (Ok number) adds fresh = mentions_new old new name number adds fresh
+added old new name (Err e) adds fresh = tt
+
+pub returns-in-None : goal.returns-in-None
+returns-in-None c =
+    added c.args.self.now.names c.add.new.self c.args.name.now c.add.result c.add.ensures.ok
+    c.in-None.ensures.none

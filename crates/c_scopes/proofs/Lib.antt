@@ -1,0 +1,4 @@
+mod Firsts
+mod Hiding
+mod Intervals
+mod Stepping

@@ -1,7 +1,0 @@
-use Rattle.std.proofs.Common.{refl}
-use Rattle.c_tree.specs.KeptScopes.{scopes_in}
-use Rattle.c_tree.proofs.scopes.Scopes.new.Goals as goal
-
-pub returns : goal.returns
-unfolding scopes_in
-returns c = rw c.new-3.ensures.items refl
