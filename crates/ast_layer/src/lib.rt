@@ -9,8 +9,6 @@ mod nodes;
 mod operator;
 mod pass;
 mod source;
-#[cfg(test)]
-mod tests;
 
 pub use pass::{AstPass, MAX_SOURCES};
 pub use source::Source;

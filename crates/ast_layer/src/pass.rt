@@ -8,6 +8,7 @@ use graph_delta::{Delta, Pass};
 use graph_forest::Planter;
 use graph_store::Graph;
 use std::alloc::{AllocError, Global};
+use std::mem;
 
 /// How many sources a pass has at most.
 pub const MAX_SOURCES: usize = 4096;
@@ -29,6 +30,16 @@ impl AstPass {
         ensures { sources_of result ≡ sources.items }
     {
         AstPass { sources }
+    }
+
+    /// Ends the pass, and gives back the memory of its sources but for their trees. A tree is many
+    /// small pieces, which a run that ends soon after leaves to the system: to give them back one
+    /// by one would take it a tenth of its time.
+    pub fn finish(self) {
+        for source in self.sources {
+            let Source { unit, .. } = source;
+            mem::forget(unit);
+        }
     }
 }
 

@@ -7,7 +7,5 @@ mod index;
 pub mod laws;
 mod row;
 mod side;
-#[cfg(test)]
-mod tests;
 
 pub use index::{Index, edges_in_order, index_of};

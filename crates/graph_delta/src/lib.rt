@@ -3,8 +3,6 @@
 
 pub mod laws;
 mod pass;
-#[cfg(test)]
-mod tests;
 
 pub use cpg_schema::End;
 pub use graph_store::{ApplyStop, Delta, Value, absorb, apply};

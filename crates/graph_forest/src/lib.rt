@@ -8,8 +8,6 @@ mod new_node;
 mod planter;
 mod properties;
 mod rank;
-#[cfg(test)]
-mod tests;
 
 pub use hang::Hang;
 pub use new_node::NewNode;

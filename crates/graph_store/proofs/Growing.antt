@@ -29,7 +29,7 @@ get_or_past [] n d h = refl
 get_or_past (x ∷ xs) zero d h = absurd (omega arith)
 get_or_past (x ∷ xs) (suc n) d h = get_or_past xs n d (omega arith)
 
-text_past : (xs : List (List ℕ)) (n : ℕ) → length xs ≤ n → get_or xs n [] ≡ []
+pub text_past : (xs : List (List ℕ)) (n : ℕ) → length xs ≤ n → get_or xs n [] ≡ []
 text_past [] n h = refl
 text_past (x ∷ xs) zero h = absurd (omega arith)
 text_past (x ∷ xs) (suc n) h = text_past xs n (omega arith)

@@ -10,7 +10,7 @@ use Rattle.cpg_schema.specs.Properties.{text_of, with_text, with_number}
 use Rattle.graph_store.specs.declared.names.TheConstants.{NO_NAME}
 use Rattle.graph_store.specs.declared.node_row.NodeRow.{NodeRow}
 use Rattle.graph_store.specs.declared.edge.Edge.{Edge}
-use Rattle.graph_store.specs.Pool.{Adds}
+use Rattle.graph_store.specs.Pool.{Adds, BeginsEmpty}
 use Rattle.graph_store.specs.Rows.{plain_node, row_text, row_with_text, row_with_number, HasNames, IsNameOrNone}
 use Rattle.graph_store.specs.Stored.{plain_edge, IsVariable}
 use Rattle.cpg_schema.specs.declared.end.End.{End}
@@ -158,12 +158,13 @@ more_text m n (value_row.Number value) le h = tt
 
 -- a delta stays one where names are added
 pub delta_names : (a b : List (List ℕ)) (nodes : List NodeRow) (edges : List NewEdgeRow) (settings : List SettingRow) →
-    Adds a b → length b ≤ NO_NAME → AreDeltaRows a nodes edges settings → AreDeltaRows b nodes edges settings
-delta_names a b nodes edges settings adds few h =
+    Adds a b → length b ≤ NO_NAME → BeginsEmpty b → AreDeltaRows a nodes edges settings → AreDeltaRows b nodes edges settings
+delta_names a b nodes edges settings adds few begins h =
     let le = length_adds a b adds in
     record {
       few_nodes = h.few_nodes;
       few_names = few;
+      begins = begins;
       texts = All-weaker (HasNames (length a)) (HasNames (length b)) (λ node. more_names (length a) (length b) node le) nodes h.texts;
       additions = All-weaker (IsNewEdgeRow (length nodes) (length a)) (IsNewEdgeRow (length nodes) (length b))
           (λ x. more_addition (length nodes) (length nodes) (length a) (length b) x (omega arith) le) edges h.additions;
@@ -178,6 +179,7 @@ pub delta_nodes : (names : List (List ℕ)) (nodes others : List NodeRow) (edges
 delta_nodes names nodes others edges settings le few all h = record {
   few_nodes = few;
   few_names = h.few_names;
+  begins = h.begins;
   texts = all;
   additions = All-weaker (IsNewEdgeRow (length nodes) (length names)) (IsNewEdgeRow (length others) (length names))
       (λ x. more_addition (length nodes) (length others) (length names) (length names) x le (omega arith)) edges h.additions;
@@ -190,6 +192,7 @@ pub delta_edge : (names : List (List ℕ)) (nodes : List NodeRow) (edges : List 
 delta_edge names nodes edges settings edge one h = record {
   few_nodes = h.few_nodes;
   few_names = h.few_names;
+  begins = h.begins;
   texts = h.texts;
   additions = All-push (IsNewEdgeRow (length nodes) (length names)) edges edge h.additions one;
   values = h.values;
@@ -201,6 +204,7 @@ pub delta_setting : (names : List (List ℕ)) (nodes : List NodeRow) (edges : Li
 delta_setting names nodes edges settings s one h = record {
   few_nodes = h.few_nodes;
   few_names = h.few_names;
+  begins = h.begins;
   texts = h.texts;
   additions = h.additions;
   values = All-push (λ (s : SettingRow). HasText (length names) s.value) settings s h.values one;

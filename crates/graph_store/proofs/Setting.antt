@@ -1,5 +1,5 @@
 -- A property or an edge that is added to a delta.
-use Rattle.std.proofs.Common.{◌≡◌, ℕ, ◌<◌, ◌≤◌, ◌⊎◌, inl, inr, false, List, [], ◌∷◌, ◌++◌, length, map, slice_set, get_or, ap, sym, subst, ◌∙◌, arith}
+use Rattle.std.proofs.Common.{◌≡◌, ℕ, ◌<◌, ◌≤◌, ◌⊎◌, inl, inr, false, List, [], ◌∷◌, ◌++◌, length, map, slice_set, get_or, refl, ap, sym, subst, ◌∙◌, arith}
 use Rattle.std.proofs.lemmas.List.{map-append, length-set}
 use Rattle.std.proofs.lemmas.List.Elements.{All-set, All-get_or}
 use Rattle.cpg_schema.specs.declared.label.Label.{Label}
@@ -46,6 +46,16 @@ plain_bare names label few =
       control_structure_type = none i;
       linkage = none i;
     }
+
+pub bare_has_names : (count : ℕ) (label : Label) → HasNames count (bare_kept label)
+bare_has_names count label = record {
+  name = inr refl;
+  code = inr refl;
+  filename = inr refl;
+  type_full_name = inr refl;
+  control_structure_type = inr refl;
+  linkage = inr refl;
+}
 
 module _ (names : List (List ℕ)) (nodes : List NodeRow) (edges : List NewEdgeRow) (settings : List SettingRow) where
   -- one node more

@@ -1,5 +1,5 @@
 -- The rows of a delta, and what they stand for. Its texts are numbers of names of its own.
-use Rattle.std.specs.Prelude.{ℕ, ◌≡◌, ◌<◌, ◌≤◌, ◌⊎◌, List, [], length, map, slice_index_or}
+use Rattle.std.specs.Prelude.{ℕ, ◌≡◌, ◌<◌, ◌≤◌, ◌⊎◌, List, [], ◌++◌, length, map, slice_index_or}
 use Rattle.std.specs.List.{All}
 use Rattle.cpg_schema.specs.declared.edge_kind.EdgeKind.TheVariants.{ReachingDef}
 use Rattle.cpg_schema.specs.declared.end.End.{End}
@@ -7,6 +7,7 @@ use Rattle.cpg_schema.specs.declared.end.End.TheVariants as end
 use Rattle.cpg_schema.specs.Properties.{Property}
 use Rattle.cpg_schema.specs.Deltas.{NewEdge, Setting, PlainDelta, IsNewEnd}
 use Rattle.graph_store.specs.declared.names.TheConstants.{NO_NAME}
+use Rattle.graph_store.specs.declared.edge.Edge.{Edge}
 use Rattle.graph_store.specs.declared.node_row.NodeRow.{NodeRow}
 use Rattle.graph_store.specs.declared.delta_row.EndRow.{EndRow}
 use Rattle.graph_store.specs.declared.delta_row.EndRow.TheVariants as end_row
@@ -14,12 +15,26 @@ use Rattle.graph_store.specs.declared.delta_row.NewEdgeRow.{NewEdgeRow}
 use Rattle.graph_store.specs.declared.delta_row.ValueRow.{ValueRow}
 use Rattle.graph_store.specs.declared.delta_row.ValueRow.TheVariants as value_row
 use Rattle.graph_store.specs.declared.delta_row.SettingRow.{SettingRow}
+use Rattle.graph_store.specs.Pool.{BeginsEmpty}
 use Rattle.graph_store.specs.Rows.{plain_node, HasNames, IsNameOrNone}
 
 -- The end that a row stands for.
 abbrev pub plain_end : EndRow → End
 plain_end (end_row.Old node) = end.Old node
 plain_end (end_row.New position) = end.New position
+
+-- The row of an edge between two new nodes, which is kept as an edge of their positions.
+abbrev pub fresh_row : Edge → NewEdgeRow
+fresh_row edge = record {
+  from = end_row.New edge.from;
+  to = end_row.New edge.to;
+  variable = edge.variable;
+  kind = edge.kind;
+}
+
+-- The rows of all edges: those between new nodes that come before any other, and the others.
+abbrev pub edge_rows : List Edge → List NewEdgeRow → List NewEdgeRow
+edge_rows fresh others = map fresh_row fresh ++ others
 
 -- The new edge, with its variable's name; the empty name is kept as `NO_NAME`.
 abbrev pub plain_new_edge : List (List ℕ) → NewEdgeRow → NewEdge
@@ -70,6 +85,7 @@ pub record AreDeltaRows
     (settings : List SettingRow) : Type 0 where
   pub few_nodes : length nodes ≤ NO_NAME
   pub few_names : length names ≤ NO_NAME
+  pub begins : BeginsEmpty names
   pub texts : All (HasNames (length names)) nodes
   pub additions : All (IsNewEdgeRow (length nodes) (length names)) edges
   pub values : All (λ (row : SettingRow). HasText (length names) row.value) settings

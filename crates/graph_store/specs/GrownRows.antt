@@ -1,5 +1,6 @@
 -- The rows that a delta's rows become in a graph, whose pool has other numbers for the names.
 use Rattle.std.specs.Prelude.{ℕ, ◌+◌, ◌<◌, ◌^◌, List, [], ◌∷◌, slice_index_or}
+use Rattle.std.specs.Prelude.{if◌then◌else◌, nat_lt}
 use Rattle.cpg_schema.specs.declared.key.Key.{Key}
 use Rattle.cpg_schema.specs.Deltas.{changed_at}
 use Rattle.graph_store.specs.declared.names.TheConstants.{NO_NAME}
@@ -31,6 +32,11 @@ edge_of_row first numbers row = record {
   to = end_row_number first row.to;
   variable = slice_index_or numbers row.variable 0;
 }
+
+-- The edge whose variable is one of so many names, and the first name where it was none.
+abbrev pub edge_within : ℕ → Edge → Edge
+edge_within count edge =
+    record edge { variable = if nat_lt edge.variable count then edge.variable else 0 }
 
 -- A node's row with a property set.
 abbrev pub row_with_value : List ℕ → Key → ValueRow → NodeRow → NodeRow

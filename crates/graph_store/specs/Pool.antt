@@ -1,5 +1,5 @@
 -- Pooled names: each stands once in a list, and its number is its position.
-use Rattle.std.specs.Prelude.{ℕ, ◌≡◌, ◌<◌, List, ◌++◌, Some, length, map}
+use Rattle.std.specs.Prelude.{ℕ, ◌≡◌, ◌<◌, ◌⊎◌, List, [], ◌++◌, Some, length, map}
 use Rattle.std.specs.Prelude.{slice_get, slice_index}
 use Rattle.std.specs.declared.vec.Vec.{Vec}
 use Rattle.std.specs.HashSet.{HashSet}
@@ -12,6 +12,10 @@ names_of set = map (λ name. name.items) set.keys
 pub record AreDistinct (names : List (List ℕ)) : Type 0 where
   pub same : (first second : ℕ) (name : List ℕ) →
       slice_get names first ≡ Some name → slice_get names second ≡ Some name → first ≡ second
+
+-- The empty name comes before all others.
+abbrev pub BeginsEmpty : List (List ℕ) → Type 0
+BeginsEmpty names = (names ≡ []) ⊎ (slice_get names 0 ≡ Some [])
 
 -- Names were added at the end.
 pub record Adds (old new : List (List ℕ)) : Type 0 where

@@ -6,6 +6,7 @@ ghost use Rattle.std.specs.List.{All};
 ghost use Rattle.cpg_schema.specs.Fitting.{Fits};
 ghost use Rattle.graph_store.specs.Stored.{Grows, plain};
 ghost use Rattle.graph_store.specs.Rows.{renumbered};
+ghost use Rattle.graph_store.specs.DeltaRows.{edge_rows, fresh_row};
 ghost use Rattle.graph_store.specs.GrownRows.{HasSmallEnds, edge_of_row, end_row_number};
 ghost use Rattle.graph_store.specs.GrownRows.{row_with_value, rows_with_settings};
 ghost use Rattle.cpg_schema.specs.Sequence.{Cap, cap_met};
@@ -54,17 +55,24 @@ pub fn apply(graph: &mut Graph, delta: &Delta) -> Result<(), ApplyStop>
     if delta.nodes.len() > graph.caps.nodes as usize - graph.nodes.len() {
         return Err(ApplyStop::TooManyNodes);
     }
-    if delta.edges.len() > graph.caps.edges as usize - graph.edges.len() {
+    let edge_count = delta.fresh.len() + delta.edges.len();
+    if edge_count > graph.caps.edges as usize - graph.edges.len() {
         return Err(ApplyStop::TooManyEdges);
     }
     graph.nodes.reserve(delta.nodes.len())?;
-    graph.edges.reserve(delta.edges.len())?;
+    graph.edges.reserve(edge_count)?;
     let alloc = *graph.nodes.allocator();
     let numbers = graph.names.add_all(alloc, &delta.names)?;
     let first = graph.nodes.len() as u32;
     set_all(&mut graph.nodes, &delta.settings, &numbers);
     append_nodes(&mut graph.nodes, &delta.nodes, &numbers);
-    append_edges(&mut graph.edges, &delta.edges, first, &numbers);
+    append_edges(
+        &mut graph.edges,
+        &delta.fresh,
+        &delta.edges,
+        first,
+        &numbers,
+    );
     Ok(())
 }
 
@@ -99,7 +107,38 @@ pub(crate) fn append_nodes(nodes: &mut Vec<NodeRow>, more: &[NodeRow], numbers: 
 }
 
 /// Appends edges, for which there is room. New nodes are numbered from `first` on.
-pub(crate) fn append_edges(edges: &mut Vec<Edge>, more: &[NewEdgeRow], first: u32, numbers: &[u32])
+pub(crate) fn append_edges(
+    edges: &mut Vec<Edge>,
+    fresh: &[Edge],
+    others: &[NewEdgeRow],
+    first: u32,
+    numbers: &[u32],
+)
+    requires room { length edges.old.items + length fresh.now + length others.now
+        ≤ vec_capacity edges.old }
+    requires small { All (HasSmallEnds first) (edge_rows fresh.now others.now) }
+    ensures { edges.new.items ≡ edges.old.items
+        ++ map (edge_of_row first numbers.now) (edge_rows fresh.now others.now) }
+{
+    append_fresh(edges, fresh, first, numbers);
+    append_others(edges, others, first, numbers);
+}
+
+/// Appends edges between new nodes.
+fn append_fresh(edges: &mut Vec<Edge>, more: &[Edge], first: u32, numbers: &[u32])
+    requires room { length edges.old.items + length more.now ≤ vec_capacity edges.old }
+    requires small { All (HasSmallEnds first) (map fresh_row more.now) }
+    ensures edges { edges.new.items ≡ edges.old.items
+        ++ map (edge_of_row first numbers.now) (map fresh_row more.now) }
+    ensures capacity { vec_capacity edges.old ≤ vec_capacity edges.new }
+{
+    for edge in more {
+        let _ = edges.push(edge_of(&NewEdgeRow::fresh(edge), first, numbers));
+    }
+}
+
+/// Appends other edges.
+fn append_others(edges: &mut Vec<Edge>, more: &[NewEdgeRow], first: u32, numbers: &[u32])
     requires room { length edges.old.items + length more.now ≤ vec_capacity edges.old }
     requires small { All (HasSmallEnds first) more.now }
     ensures { edges.new.items ≡ edges.old.items ++ map (edge_of_row first numbers.now) more.now }

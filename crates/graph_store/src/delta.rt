@@ -6,8 +6,10 @@ ghost use Rattle.cpg_schema.specs.Graph.{bare_node, IsVariableOf};
 ghost use Rattle.cpg_schema.specs.Properties.{HasForm, Property, is_number_key};
 ghost use Rattle.cpg_schema.specs.Deltas.{IsNewEnd, empty_delta, set_at};
 ghost use Rattle.graph_store.specs.Values.{property_of};
+ghost use Rattle.graph_store.specs.DeltaRows.{edge_rows};
 
 use crate::delta_row::{EndRow, NewEdgeRow, SettingRow, ValueRow};
+use crate::edge::Edge;
 use crate::graph::Graph;
 use crate::names::{NO_NAME, Names};
 use crate::node_row::NodeRow;
@@ -29,21 +31,25 @@ pub enum Value {
 pub struct Delta {
     pub(crate) names: Names,
     pub(crate) nodes: Vec<NodeRow>,
+    /// The edges that come before the first one from or to a node of the graph. Their ends are
+    /// positions of new nodes, so that a graph without nodes can keep them as they are.
+    pub(crate) fresh: Vec<Edge>,
+    /// The other edges.
     pub(crate) edges: Vec<NewEdgeRow>,
     pub(crate) settings: Vec<SettingRow>,
 }
 
 impl Model for Delta {
     ghost use Rattle.cpg_schema.specs.Deltas.{PlainDelta};
-    ghost use Rattle.graph_store.specs.DeltaRows.{plain_delta, AreDeltaRows};
+    ghost use Rattle.graph_store.specs.DeltaRows.{plain_delta, edge_rows, AreDeltaRows};
 
     ghost Value = { PlainDelta };
 
-    ghost view = { λ delta.
-        plain_delta delta.names delta.nodes.items delta.edges.items delta.settings.items };
+    ghost view = { λ delta. plain_delta delta.names delta.nodes.items
+        (edge_rows delta.fresh.items delta.edges.items) delta.settings.items };
 
-    ghost invariant = { λ delta.
-        AreDeltaRows delta.names delta.nodes.items delta.edges.items delta.settings.items };
+    ghost invariant = { λ delta. AreDeltaRows delta.names delta.nodes.items
+        (edge_rows delta.fresh.items delta.edges.items) delta.settings.items };
 }
 
 impl Delta {
@@ -55,6 +61,7 @@ impl Delta {
         Delta {
             names: Names::new(alloc, graph.hashes()),
             nodes: Vec::new(alloc),
+            fresh: Vec::new(alloc),
             edges: Vec::new(alloc),
             settings: Vec::new(alloc),
         }
@@ -104,12 +111,13 @@ impl Delta {
         ensures err { OnErr result (self.new ≡ self.old) }
     {
         let variable = self.names.variable_of(variable)?;
-        self.edges.push(NewEdgeRow {
+        let row = NewEdgeRow {
             from: EndRow::of(from),
             to: EndRow::of(to),
             variable,
             kind,
-        })?;
+        };
+        add_row(&mut self.fresh, &mut self.edges, row)?;
         Ok(())
     }
 
@@ -138,7 +146,7 @@ impl Delta {
         ensures count { length self.new.nodes ≡ length self.old.nodes }
         ensures err { OnErr result (self.new ≡ self.old) }
     {
-        let number = self.names.number_of(value)?;
+        let number = self.names.number_behind_empty(value)?;
         match at {
             End::New(position) => self.nodes[position as usize].set_text(key, number),
             End::Old(node) => self.settings.push(SettingRow {
@@ -169,4 +177,29 @@ impl Delta {
         }
         Ok(())
     }
+}
+
+/// Adds the row of an edge to those between new nodes, as long as there are no others, or to the
+/// others.
+#[inline(always)]
+fn add_row(
+    fresh: &mut Vec<Edge>,
+    others: &mut Vec<NewEdgeRow>,
+    row: NewEdgeRow,
+) -> Result<(), AllocError>
+    ensures ok { OnOk result (edge_rows fresh.new.items others.new.items
+        ≡ edge_rows fresh.old.items others.old.items ++ row ∷ []) }
+    ensures err { OnErr result (edge_rows fresh.new.items others.new.items
+        ≡ edge_rows fresh.old.items others.old.items) }
+{
+    match (row.from, row.to) {
+        (EndRow::New(from), EndRow::New(to)) if others.is_empty() => fresh.push(Edge {
+            from,
+            kind: row.kind,
+            to,
+            variable: row.variable,
+        })?,
+        _ => others.push(row)?,
+    }
+    Ok(())
 }

@@ -2,8 +2,9 @@
 
 ghost use Rattle.std.specs.Prelude.{◌≡◌};
 ghost use Rattle.cpg_schema.specs.Deltas.{IsNewEnd};
-ghost use Rattle.graph_store.specs.DeltaRows.{plain_end};
+ghost use Rattle.graph_store.specs.DeltaRows.{plain_end, fresh_row};
 
+use crate::edge::Edge;
 use crate::names::NO_NAME;
 use cpg_schema::{EdgeKind, End, Key};
 
@@ -33,6 +34,20 @@ pub(crate) struct NewEdgeRow {
     pub(crate) to: EndRow,
     pub(crate) variable: u32,
     pub(crate) kind: EdgeKind,
+}
+
+impl NewEdgeRow {
+    /// The row of an edge between two new nodes.
+    pub(crate) fn fresh(edge: &Edge) -> NewEdgeRow
+        ensures { result ≡ fresh_row edge.now }
+    {
+        NewEdgeRow {
+            from: EndRow::New(edge.from),
+            to: EndRow::New(edge.to),
+            variable: edge.variable,
+            kind: edge.kind,
+        }
+    }
 }
 
 /// The value of a property.

@@ -11,8 +11,6 @@ mod graph;
 pub mod laws;
 mod names;
 mod node_row;
-#[cfg(test)]
-mod tests;
 
 pub use absorbing::absorb;
 pub use applying::{ApplyStop, apply};

@@ -2,7 +2,7 @@
 
 ghost use Rattle.std.specs.Prelude.{◌≡◌, ◌+◌, ◌<◌, ◌≤◌, ◌++◌, [], length, take, map, slice_get};
 ghost use Rattle.std.specs.Prelude.{slice_index_or, option_copied, IfOk, IfSome, OnOk, OnErr, Some};
-ghost use Rattle.graph_store.specs.Pool.{Adds, AreDistinct, Numbers};
+ghost use Rattle.graph_store.specs.Pool.{Adds, AreDistinct, BeginsEmpty, Numbers};
 ghost use Rattle.graph_store.specs.Rows.{IsNameOrNone};
 
 use indexmap::IndexSet;
@@ -14,7 +14,7 @@ use std::marker::Model;
 pub(crate) const NO_NAME: u32 = u32::MAX;
 
 /// How many places there are for names that were asked for lately.
-const PLACES: usize = 8192;
+const PLACES: usize = 32768;
 
 /// A pool of fewer names has no such places.
 const FEW: usize = 64;
@@ -106,6 +106,21 @@ impl Names {
         Ok(number)
     }
 
+    /// The number of a name likewise, where the empty name is added before any other.
+    #[inline(always)]
+    pub(crate) fn number_behind_empty(&mut self, name: &[u8]) -> Result<u32, AllocError>
+        requires { BeginsEmpty self.old }
+        ensures stored { IfOk result (λ number. slice_get self.new number ≡ Some name.now) }
+        ensures adds { Adds self.old self.new }
+        ensures few { length self.new ≤ NO_NAME }
+        ensures begins { BeginsEmpty self.new }
+    {
+        if self.set.is_empty() {
+            self.pooled(b"")?;
+        }
+        self.number_of(name)
+    }
+
     /// The number that is remembered at a place, if it is that of the name.
     fn remembered(&self, place: usize, name: &[u8]) -> Option<u32>
         ensures { IfSome result (λ number. slice_get self.now number ≡ Some name.now) }
@@ -154,18 +169,19 @@ impl Names {
 
     /// The number of a variable's name, which is `NO_NAME` for the empty one.
     pub(crate) fn variable_of(&mut self, name: &[u8]) -> Result<u32, AllocError>
+        requires { BeginsEmpty self.old }
         ensures stored { IfOk result (λ number. slice_index_or self.new number [] ≡ name.now) }
         ensures number { IfOk result (IsNameOrNone (length self.new)) }
         ensures unnamed { IfOk result (λ number. name.now ≡ [] → number ≡ NO_NAME) }
         ensures adds { Adds self.old self.new }
         ensures few { length self.new ≤ NO_NAME }
-        ensures err { OnErr result (self.new ≡ self.old) }
+        ensures begins { BeginsEmpty self.new }
     {
         if name.is_empty() {
             let _ = &self.set;
             return Ok(NO_NAME);
         }
-        self.number_of(name)
+        self.number_behind_empty(name)
     }
 
     /// Keeps the first `count` names.

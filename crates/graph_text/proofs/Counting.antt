@@ -1,9 +1,8 @@
 -- How many decimal digits a number has, and what stands in a buffer where they are put.
-use Rattle.std.proofs.Common.{◌≡◌, ℕ, ◌+◌, ◌/◌, ◌%◌, ◌<◌, ◌≤◌, ◌^◌, List, [], ◌∷◌, ◌++◌, length, take, drop, refl, ap, sym, subst, ◌∙◌, arith}
+use Rattle.std.proofs.Common.{◌≡◌, ℕ, ◌+◌, ◌/◌, ◌%◌, ◌<◌, ◌≤◌, ◌^◌, [], ◌∷◌, length, ap, ◌∙◌, arith}
 use Rattle.std.specs.Fmt.{decimal}
 use Rattle.std.proofs.lemmas.Fmt.{decimal_digit, decimal_step}
-use Rattle.std.proofs.Math.Seq.{take-append-add}
-use Rattle.std.proofs.lemmas.List.{length-append, length-take-le, take-append-drop, take_at}
+use Rattle.std.proofs.lemmas.List.{length-append}
 
 pub one : (n : ℕ) → n < 10 → length (decimal n) ≡ 1
 one n small = ap length (decimal_digit n small)
@@ -41,21 +40,3 @@ nine n low high = one_more n 8 (omega arith) (omega arith) (eight (n / 10) (omeg
 
 pub ten : (n : ℕ) → 1000000000 ≤ n → n < 10000000000 → length (decimal n) ≡ 10
 ten n low high = one_more n 9 (omega arith) (omega arith) (nine (n / 10) (omega arith) (omega arith))
-
--- Digits that are put behind what stood at the front.
-pub digits_put : (old new ds : List ℕ) (w r : ℕ) → r ≡ w → w ≤ length old →
-    take r new ≡ take r old → drop r new ≡ ds ++ drop (w + length ds) old →
-    take (w + length ds) new ≡ take w old ++ ds
-digits_put old new ds w r same within before written =
-    let last = drop (w + length ds) old in
-    let front : take w new ≡ take w old = subst (λ k. take k new ≡ take k old) same before in
-    let rest : drop w new ≡ ds ++ last = subst (λ k. drop k new ≡ ds ++ last) same written in
-    let whole : new ≡ take w old ++ (ds ++ last) =
-    sym (take-append-drop w new)
-    ∙ ap (λ xs. xs ++ drop w new) front
-    ∙ ap (λ ys. take w old ++ ys) rest in
-    let size : length (take w old) ≡ w = length-take-le w old within in
-    ap (take (w + length ds)) whole
-    ∙ ap (λ k. take (k + length ds) (take w old ++ (ds ++ last))) (sym size)
-    ∙ take-append-add (take w old) (ds ++ last) (length ds)
-    ∙ ap (λ ys. take w old ++ ys) (take_at ds last (length ds) refl)

@@ -5,13 +5,13 @@ ghost use Rattle.joern_io.specs.Sinks.{Takes, TakesPrefix};
 ghost use Rattle.cpg_schema.specs.Graph.{PlainNode};
 ghost use Rattle.cpg_schema.specs.Lines.{graph_lines, node_line, node_lines};
 ghost use Rattle.cpg_schema.specs.Lines.{edge_line, variable_text};
-ghost use Rattle.cpg_schema.specs.Names.{kind_name};
+ghost use Rattle.cpg_schema.specs.Names.{kind_name, label_name};
 ghost use Rattle.graph_store.specs.Stored.{plain, plain_edge};
 ghost use Rattle.edge_index.specs.Indexed.{AreInOrder};
 ghost use Rattle.graph_text.specs.Printing.{Prints};
 
 use crate::printer::Printer;
-use cpg_schema::EdgeKind;
+use cpg_schema::{EdgeKind, Label};
 use graph_store::{Edge, Graph};
 use joern_io::{Failed, Sink};
 
@@ -60,16 +60,45 @@ impl Printer {
         ensures { (node : PlainNode) → slice_get graph.now.nodes id ≡ Some node →
             Prints (S.state sink.old, self.old) (S.state sink.new, self.new) (node_line id node) }
     {
-        self.text(sink, b"node ");
-        self.number(sink, id);
-        self.text(sink, b" ");
-        self.verbatim(sink, graph.node(id).name());
+        self.numbered(sink, b"node ", id);
+        self.label(sink, graph.node(id));
         self.properties(sink, graph, id);
         self.text(sink, b"\n");
     }
 
+    /// Prints ` LABEL`, of the labels that are frequent in one piece.
+    #[inline(always)]
+    fn label<S: Sink>(&mut self, sink: &mut S, label: Label)
+        ensures { Prints (S.state sink.old, self.old) (S.state sink.new, self.new)
+            (codes " " ++ label_name label) }
+    {
+        match label {
+            Label::Call => self.text(sink, b" CALL"),
+            Label::Identifier => self.text(sink, b" IDENTIFIER"),
+            Label::Literal => self.text(sink, b" LITERAL"),
+            _ => {
+                self.text(sink, b" ");
+                self.verbatim(sink, label.name());
+            }
+        }
+    }
+
     /// Prints the line of an edge.
     fn edge<S: Sink>(&mut self, sink: &mut S, graph: &Graph, edge: &Edge)
+        ensures { Prints (S.state sink.old, self.old) (S.state sink.new, self.new)
+            (edge_line (plain_edge graph.now.names edge.now)) }
+    {
+        match edge.kind {
+            EdgeKind::Ast => self.numbers(sink, b"edge ", edge.from, b" AST ", edge.to, b"\n"),
+            EdgeKind::Argument => {
+                self.numbers(sink, b"edge ", edge.from, b" ARGUMENT ", edge.to, b"\n");
+            }
+            _ => self.edge_in_parts(sink, graph, edge),
+        }
+    }
+
+    /// Prints the line of an edge of any kind.
+    fn edge_in_parts<S: Sink>(&mut self, sink: &mut S, graph: &Graph, edge: &Edge)
         ensures { Prints (S.state sink.old, self.old) (S.state sink.new, self.new)
             (edge_line (plain_edge graph.now.names edge.now)) }
     {
@@ -81,21 +110,14 @@ impl Printer {
         self.text(sink, b"\n");
     }
 
-    /// Prints ` KIND `, of the kinds that are frequent in one piece.
-    #[inline(always)]
+    /// Prints ` KIND `.
     fn kind<S: Sink>(&mut self, sink: &mut S, kind: EdgeKind)
         ensures { Prints (S.state sink.old, self.old) (S.state sink.new, self.new)
             (codes " " ++ kind_name kind ++ codes " ") }
     {
-        match kind {
-            EdgeKind::Ast => self.text(sink, b" AST "),
-            EdgeKind::Argument => self.text(sink, b" ARGUMENT "),
-            _ => {
-                self.text(sink, b" ");
-                self.verbatim(sink, kind.name());
-                self.text(sink, b" ");
-            }
-        }
+        self.text(sink, b" ");
+        self.verbatim(sink, kind.name());
+        self.text(sink, b" ");
     }
 
     /// Prints the variable of an edge, if it is one that has a variable.

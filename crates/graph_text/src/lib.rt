@@ -7,8 +7,6 @@ mod graph;
 mod line;
 mod printer;
 mod properties;
-#[cfg(test)]
-mod tests;
 mod value;
 
 pub use graph::dump;

@@ -1,5 +1,5 @@
 //! A fixed buffer before a sink.
-ghost use Rattle.std.specs.Prelude.{◌≡◌, ◌+◌, ◌≤◌, ◌++◌, [], true, false, length};
+ghost use Rattle.std.specs.Prelude.{◌≡◌, ◌+◌, ◌≤◌, ◌++◌, [], true, false, length, take};
 ghost use Rattle.std.specs.Prelude.{IsErr, OnOk, OnErr, decimal};
 ghost use Rattle.joern_io.specs.Sinks.{Takes, TakesPrefix};
 ghost use Rattle.graph_text.specs.Printing.{Prints};
@@ -100,9 +100,53 @@ impl Printer {
         ensures bytes { self.new.bytes ≡ self.old.bytes ++ decimal n }
         ensures failed { self.new.failed ≡ self.old.failed }
     {
-        let past = self.waiting + digit_count(n);
-        write_digits(n as u64, &mut self.buffer, past);
-        self.waiting = past;
+        self.waiting = put_number(&mut self.buffer, self.waiting, n);
+    }
+
+    /// Has a text and a number behind it wait, for which there is room.
+    #[inline(always)]
+    pub(crate) fn keep_numbered(&mut self, text: &[u8], n: u32)
+        requires fits { length self.old.bytes + length text.now + MOST_DIGITS ≤ ROOM }
+        ensures bytes { self.new.bytes ≡ self.old.bytes ++ (text.now ++ decimal n) }
+        ensures failed { self.new.failed ≡ self.old.failed }
+    {
+        let at = put(&mut self.buffer, self.waiting, text);
+        self.waiting = put_number(&mut self.buffer, at, n);
+    }
+
+    /// Has two texts wait, one behind the other, for which there is room.
+    #[inline(always)]
+    pub(crate) fn keep_both(&mut self, first: &[u8], second: &[u8])
+        requires fits { length self.old.bytes + length first.now + length second.now ≤ ROOM }
+        ensures bytes { self.new.bytes ≡ self.old.bytes ++ (first.now ++ second.now) }
+        ensures failed { self.new.failed ≡ self.old.failed }
+    {
+        let at = put(&mut self.buffer, self.waiting, first);
+        self.waiting = put(&mut self.buffer, at, second);
+    }
+
+    /// Has a text, a number, a second text, a second number and a third text wait, for which there
+    /// is room.
+    #[inline(always)]
+    pub(crate) fn keep_two_numbered(
+        &mut self,
+        first: &[u8],
+        m: u32,
+        second: &[u8],
+        n: u32,
+        third: &[u8],
+    )
+        requires fits { length self.old.bytes + length first.now + MOST_DIGITS + length second.now
+            + MOST_DIGITS + length third.now ≤ ROOM }
+        ensures bytes { self.new.bytes ≡ self.old.bytes
+            ++ (first.now ++ (decimal m ++ (second.now ++ (decimal n ++ third.now)))) }
+        ensures failed { self.new.failed ≡ self.old.failed }
+    {
+        let at = put(&mut self.buffer, self.waiting, first);
+        let at = put_number(&mut self.buffer, at, m);
+        let at = put(&mut self.buffer, at, second);
+        let at = put_number(&mut self.buffer, at, n);
+        self.waiting = put(&mut self.buffer, at, third);
     }
 
     /// Writes a text past the buffer, in which nothing waits.
@@ -138,4 +182,29 @@ impl Printer {
         printer.flush(sink);
         if printer.failed { Err(Failed) } else { Ok(()) }
     }
+}
+
+/// Puts a text into a buffer behind its first `at` bytes, and returns where it ends.
+#[inline(always)]
+fn put(buffer: &mut [u8; ROOM], at: usize, text: &[u8]) -> usize
+    requires { at + length text.now ≤ ROOM }
+    ensures end { result ≡ at + length text.now }
+    ensures bytes { take result buffer.new ≡ take at buffer.old ++ text.now }
+{
+    let end = at + text.len();
+    buffer[at..end].copy_from_slice(text);
+    end
+}
+
+/// Puts the digits of a number likewise.
+#[inline(always)]
+fn put_number(buffer: &mut [u8; ROOM], at: usize, n: u32) -> usize
+    requires { at + MOST_DIGITS ≤ ROOM }
+    ensures end { result ≡ at + length (decimal n) }
+    ensures most { result ≤ at + MOST_DIGITS }
+    ensures bytes { take result buffer.new ≡ take at buffer.old ++ decimal n }
+{
+    let end = at + digit_count(n);
+    write_digits(n as u64, buffer, end);
+    end
 }

@@ -37,8 +37,7 @@ impl Printer {
             (text_property key (option_and_then (text_of key) (slice_get graph.now.nodes id))) }
     {
         if let Some(bytes) = graph.text(id, key) {
-            self.key(sink, key);
-            self.value(sink, bytes);
+            self.valued(sink, text_of(key).as_bytes(), bytes);
         }
     }
 
@@ -50,17 +49,8 @@ impl Printer {
             (number_property key (option_and_then (number_of key) (slice_get graph.now.nodes id))) }
     {
         if let Some(n) = graph.number(id, key) {
-            self.key(sink, key);
-            self.number(sink, n);
+            self.numbered(sink, text_of(key).as_bytes(), n);
         }
-    }
-
-    /// Prints ` KEY=`.
-    #[inline(always)]
-    fn key<S: Sink>(&mut self, sink: &mut S, key: Key)
-        ensures { Prints (S.state sink.old, self.old) (S.state sink.new, self.new) (key_text key) }
-    {
-        self.verbatim(sink, text_of(key));
     }
 }
 

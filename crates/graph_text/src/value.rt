@@ -1,5 +1,5 @@
 //! Values, verbatim texts and numbers.
-ghost use Rattle.std.specs.Prelude.{◌≡◌, ◌<◌, ◌≤◌, false, length, slice_index, take, decimal};
+ghost use Rattle.std.specs.Prelude.{◌≡◌, ◌<◌, ◌≤◌, ◌++◌, false, length, slice_index, take, decimal};
 ghost use Rattle.cpg_schema.specs.Values.{escape, escaped, hex_digit, is_plain};
 ghost use Rattle.graph_text.specs.Printing.{Prints};
 
@@ -93,6 +93,66 @@ impl Printer {
         } else {
             self.flush(sink);
             self.keep_number(n);
+        }
+    }
+}
+
+/// How long the texts beside numbers are that are printed in one piece.
+const SHORT: usize = 32;
+
+impl Printer {
+    /// Prints a short text and a number behind it.
+    #[inline(always)]
+    pub(crate) fn numbered<S: Sink>(&mut self, sink: &mut S, text: &[u8], n: u32)
+        requires short { length text.now ≤ SHORT }
+        ensures { Prints (S.state sink.old, self.old) (S.state sink.new, self.new)
+            (text.now ++ decimal n) }
+    {
+        if self.room() < SHORT + MOST_DIGITS {
+            self.flush(sink);
+            self.keep_numbered(text, n);
+        } else {
+            self.keep_numbered(text, n);
+        }
+    }
+
+    /// Prints a short text and a value behind it.
+    #[inline(always)]
+    pub(crate) fn valued<S: Sink>(&mut self, sink: &mut S, text: &[u8], bytes: &[u8])
+        requires short { length text.now ≤ SHORT }
+        ensures { Prints (S.state sink.old, self.old) (S.state sink.new, self.new)
+            (text.now ++ escaped bytes.now) }
+    {
+        if plain_len(bytes) == bytes.len() && bytes.len() <= SHORT && self.room() >= 2 * SHORT {
+            self.keep_both(text, bytes);
+        } else {
+            self.text(sink, text);
+            self.value(sink, bytes);
+        }
+    }
+
+    /// Prints two numbers between three short texts.
+    #[inline(always)]
+    pub(crate) fn numbers<S: Sink>(
+        &mut self,
+        sink: &mut S,
+        first: &[u8],
+        m: u32,
+        second: &[u8],
+        n: u32,
+        third: &[u8],
+    )
+        requires first { length first.now ≤ SHORT }
+        requires second { length second.now ≤ SHORT }
+        requires third { length third.now ≤ SHORT }
+        ensures { Prints (S.state sink.old, self.old) (S.state sink.new, self.new)
+            (first.now ++ (decimal m ++ (second.now ++ (decimal n ++ third.now)))) }
+    {
+        if self.room() < 3 * SHORT + 2 * MOST_DIGITS {
+            self.flush(sink);
+            self.keep_two_numbered(first, m, second, n, third);
+        } else {
+            self.keep_two_numbered(first, m, second, n, third);
         }
     }
 }

@@ -44,8 +44,8 @@ pub(crate) fn build_graph(alloc: Global, source: Source) -> Result<BuiltGraph, A
     Ok(BuiltGraph { graph, edges })
 }
 
-/// Builds the graph of a source. The source's memory is given back before the edges are put in
-/// order.
+/// Builds the graph of a source. The source's memory but for its tree is given back before the
+/// edges are put in order.
 fn graph_of(alloc: Global, source: Source) -> Result<Graph, ApplyStop>
     ensures ok { IfOk result (λ graph.
         built_alone (source_forest (Some source)) ≡ Ok (plain graph)) }
@@ -62,6 +62,7 @@ fn graph_of(alloc: Global, source: Source) -> Result<Graph, ApplyStop>
     let empty = Graph::new(alloc, caps, hashes)?;
     let pass = first_pass(alloc, source)?;
     let graph = run_pass_one(alloc, &pass, empty)?;
+    pass.finish();
     Ok(graph)
 }
 

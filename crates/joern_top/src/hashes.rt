@@ -63,8 +63,10 @@ impl<'a> Names<'a> {
         let spelling = span.of(self.text);
         let place = place_of(spelling);
         if let Some(last) = self.lately.get_mut(place) {
-            if last.of(self.text) != spelling {
-                *last = span;
+            let is_new = last.of(self.text) != spelling;
+            // Where it stands now is nearer to where it is looked for next.
+            *last = span;
+            if is_new {
                 self.add(spelling);
             }
         }

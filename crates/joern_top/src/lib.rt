@@ -9,8 +9,6 @@ pub mod laws;
 mod refusal;
 mod source;
 mod status;
-#[cfg(test)]
-mod tests;
 mod top;
 mod words;
 mod write;

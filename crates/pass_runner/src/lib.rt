@@ -2,7 +2,5 @@
 #![tactic(auto)]
 
 mod runner;
-#[cfg(test)]
-mod tests;
 
 pub use runner::run_pass_one;

@@ -1,7 +1,6 @@
 use Rattle.graph_text.proofs.Composing.{Prints-then}
 use Rattle.graph_text.proofs.printer.Printer.kind.Goals as goal
 
-pub returns-in_default : goal.returns-in_default
-returns-in_default g c =
-    Prints-then (Prints-then c.text-in_default.ensures (rw c.name.ensures at c.verbatim.ensures))
-    c.text-in_default-2.ensures
+pub returns : goal.returns
+returns g c =
+    Prints-then (Prints-then c.text.ensures (rw c.name.ensures at c.verbatim.ensures)) c.text-2.ensures

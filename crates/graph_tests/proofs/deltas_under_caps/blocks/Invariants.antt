@@ -1,0 +1,8 @@
+use Rattle.std.proofs.Common.{◌≡◌, []}
+use Rattle.graph_tests.proofs.deltas_under_caps.blocks.Given as goal
+
+abbrev pub invariant-loop : goal.invariant-loop
+invariant-loop l = record {
+  edges : l.delta.edges ≡ [];
+  settings : l.delta.settings ≡ [];
+}
