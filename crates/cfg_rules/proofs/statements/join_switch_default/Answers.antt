@@ -1,0 +1,6 @@
+use Rattle.cfg_rules.proofs.Answering.{if_ok}
+use Rattle.cfg_rules.proofs.JoinSwitchDefault.{switch_default_is}
+use Rattle.cfg_rules.proofs.statements.join_switch_default.Goals as goal
+
+pub returns : goal.returns
+returns c = if_ok c.past.result c.past.ensures (λ next is plan x rule p0 p1 le br. switch_default_is plan x _ _ _ _ _ _ _ _ _ _ _ rule p0 p1 le br c.entry-here.ensures c.in_ok-tested.ensures c.in_ok-enter.ensures c.in_ok-lead.ensures c.from_marks-ran.ensures is)
