@@ -1,10 +1,11 @@
-//! A flow graph's edges by their ends, and which vertices a set of edges leads to: flat arrays, and
-//! time linear in edges and vertices.
+//! A flow graph's edges by their ends, in flat arrays, and which vertices a set of edges leads to,
+//! in time linear in edges and vertices.
 #![tactic(auto)]
 
 mod bridging;
 mod chains;
 mod crossing_ways;
+mod link;
 mod reaching;
 mod vertex_set;
 

@@ -23,9 +23,9 @@ fn follow(
     ensures all { OnOk result (FollowsAll ways.now from set.new) }
 {
     let mut next = chains.last(from);
-    while let Some(place) = next {
-        set.meet(ways[place as usize].1)?;
-        next = chains.before(place);
+    while let Some(position) = next {
+        set.meet(ways[position as usize].1)?;
+        next = chains.before(position);
     }
     Ok(())
 }
@@ -44,7 +44,7 @@ pub fn reached(
         Contains set.met vertex ↔ IsReached ways.now starts.now vertex) }
 {
     let keys: Vec<u32> = ways.iter().map(|way| way.0).collect(alloc)?;
-    let chains = Chains::of(alloc, count as usize, &keys)?;
+    let chains = Chains::of(alloc, count as usize, keys)?;
     let mut set = VertexSet::new(alloc, count)?;
     for start in starts {
         set.meet(*start)?;

@@ -41,24 +41,25 @@ adding_none before goal outs = record {
   below = λ k later inside. All-nil (λ (pair : Pair). pair.out < get_or outs k 0);
 }
 
-pub adding_skip : (before : List Pair) (goal : ℕ) (outs : List ℕ) (after : List Pair) (index : ℕ) → Contains after (record { goal = goal; out = get_or outs index 0 }) → Adding before goal outs after index → Adding before goal outs after (index + 1)
+pub adding_skip : (before : List Pair) (goal : ℕ) (outs : List ℕ) (after : List Pair) (index : ℕ) → Contains before (record { goal = goal; out = get_or outs index 0 }) → Adding before goal outs after index → Adding before goal outs after (index + 1)
 adding_skip before goal outs after index has is = record {
   new = is.new;
   kept = is.kept;
   each = is.each;
   all = λ k less inside. elim (cases_lt k index) [
     | inl front ↦ is.all k front inside
-    | inr not_front ↦ let here : index ≡ k = omega arith in subst (λ (i : ℕ). Contains after (record { goal = goal; out = get_or outs i 0 })) here has
+    | inr not_front ↦ let here : index ≡ k = omega arith in
+        let stands : Contains after (record { goal = goal; out = get_or outs index 0 }) = subst (λ (xs : List Pair). Contains xs (record { goal = goal; out = get_or outs index 0 })) (sym is.kept) (Contains-append_left before is.new _ has) in
+        subst (λ (i : ℕ). Contains after (record { goal = goal; out = get_or outs i 0 })) here stands
   ];
   rise = is.rise;
   below = λ k later inside. is.below k (omega arith) inside;
 }
 
-pub adding_one : (before : List Pair) (goal : ℕ) (outs : List ℕ) (after : List Pair) (index : ℕ) → IsStrictlyIncreasing outs → index < length outs → ¬ Contains after (record { goal = goal; out = get_or outs index 0 }) →
+pub adding_one : (before : List Pair) (goal : ℕ) (outs : List ℕ) (after : List Pair) (index : ℕ) → IsStrictlyIncreasing outs → index < length outs → ¬ Contains before (record { goal = goal; out = get_or outs index 0 }) →
     Adding before goal outs after index → Adding before goal outs (after ++ record { goal = goal; out = get_or outs index 0 } ∷ []) (index + 1)
-adding_one before goal outs after index outs_rise within hasnt is =
+adding_one before goal outs after index outs_rise within fresh is =
     let pair : Pair = record { goal = goal; out = get_or outs index 0 } in
-    let fresh : ¬ Contains before pair = λ has. hasnt (subst (λ (xs : List Pair). Contains xs pair) (sym is.kept) (Contains-append_left before is.new pair has)) in
     record {
       new = is.new ++ pair ∷ [];
       kept = ap (λ xs. xs ++ pair ∷ []) is.kept ∙ append_assoc before is.new (pair ∷ []);
@@ -88,22 +89,22 @@ adding_end before goal outs after index end is = record {
 pub adding_undone : (before : List Pair) (goal : ℕ) (outs : List ℕ) (after : List Pair) (index len : ℕ) → len ≡ length before → Adding before goal outs after index → take len after ≡ before
 adding_undone before goal outs after index len is adding = rw (is, adding.kept) (take-append_seam before adding.new)
 
-pub place_publishes : (board : BoardState) (goal : ℕ) (found : Found) (history : List Pair) (place : ℕ) (task : Task) → IsSound board → Flies board goal → found.seen ≤ length board.history →
-    IsFoundOf board.flow (take found.seen board.history) goal found → AddsNew board.history goal found.outs history → place < length board.tasks → task ≡ get_or board.tasks place task → task.goal ≡ goal →
-    Publishes board goal found (record board { history = history; tasks = set board.tasks place (record task { stamp = Some (record { seen = found.seen; asked = found.asked }); flies = false }) })
-place_publishes board goal found history place task sound flies seen was_found adds within at of_goal = record {
+pub position_publishes : (board : BoardState) (goal : ℕ) (found : Found) (history : List Pair) (position : ℕ) (task : Task) → IsSound board → Flies board goal → found.seen ≤ length board.history →
+    IsFoundOf board.flow (take found.seen board.history) goal found → AddsNew board.history goal found.outs history → position < length board.tasks → task ≡ get_or board.tasks position task → task.goal ≡ goal →
+    Publishes board goal found (record board { history = history; tasks = set board.tasks position (record task { stamp = Some (record { seen = found.seen; asked = found.asked }); flies = false }) })
+position_publishes board goal found history position task sound flies seen was_found adds within at of_goal = record {
   flies = flies;
   seen = seen;
   was_found = was_found;
   new = adds.new;
   are_new = adds.are_new;
-  changes = ap (λ h. record board { history = h; tasks = set board.tasks place (record task { stamp = Some (record { seen = found.seen; asked = found.asked }); flies = false }) }) adds.kept
+  changes = ap (λ h. record board { history = h; tasks = set board.tasks position (record task { stamp = Some (record { seen = found.seen; asked = found.asked }); flies = false }) }) adds.kept
       ∙ ap (λ tasks. record board { history = board.history ++ adds.new; tasks = tasks })
-      (set_changed goal (λ t. record t { stamp = Some (record { seen = found.seen; asked = found.asked }); flies = false }) board.tasks place task (tasks_rise board.tasks sound.goals.rise) within at of_goal);
+      (set_changed goal (λ t. record t { stamp = Some (record { seen = found.seen; asked = found.asked }); flies = false }) board.tasks position task (tasks_rise board.tasks sound.goals.rise) within at of_goal);
 }
 
 pub publish_kept : (board after : BoardState) (goal : ℕ) (found : Found) → IsKeptBoard board → Publishes board goal found after → IsKeptBoard after
 publish_kept board after goal found kept publishes = record {
-  within = rw publishes.changes (record { flow = kept.within.flow; starts = kept.within.starts });
+  starts = rw publishes.changes kept.starts;
   sound = publish_sound board goal found after kept.sound publishes;
 }

@@ -6,8 +6,10 @@ ghost use Rattle.std.specs.List.{All, Contains};
 ghost use Rattle.std.specs.List.Sorted.{IsStrictlyIncreasing};
 ghost use Rattle.summary_core.specs.Board.{goals_of, IsClaimable, IsStale};
 ghost use Rattle.summary_core.specs.Events.{AddsNew};
-ghost use Rattle.summary_core.specs.Claiming.{HasSeen, IsFirstClaimable};
+ghost use Rattle.summary_core.specs.Knowing.{Knows};
+ghost use Rattle.summary_core.specs.Claiming.{HasFront, IsFirstClaimable, IsFront};
 
+use crate::known::Known;
 use crate::task::{Stamp, Task};
 use matched_paths::Pair;
 use std::alloc::{AllocError, Global};
@@ -20,40 +22,33 @@ pub(crate) fn goals_among(alloc: Global, tasks: &[Task]) -> Result<Vec<u32>, All
 }
 
 /// Where the task of the goal stands.
-pub(crate) fn place_of(tasks: &[Task], goal: u32) -> Option<usize>
+pub(crate) fn position_of(tasks: &[Task], goal: u32) -> Option<usize>
+    requires { IsStrictlyIncreasing (goals_of tasks.now) }
     ensures { MatchOption result (All (λ task. ¬ (task.goal ≡ goal)) tasks.now)
-        (λ place. (place < length tasks.now)
-        × ((d : Task) → (slice_index_or tasks.now place d).goal ≡ goal)) }
+        (λ position. (position < length tasks.now)
+        × ((d : Task) → (slice_index_or tasks.now position d).goal ≡ goal)) }
 {
-    for (place, task) in tasks.iter().enumerate() {
-        if task.goal == goal {
-            return Some(place);
-        }
+    match tasks.binary_search_by_key(&goal, |task| task.goal) {
+        Ok(position) => Some(position),
+        Err(_) => None,
     }
-    None
 }
 
 /// Whether the goal was asked.
 fn asks(asked: &[u32], goal: u32) -> bool
+    requires { IsStrictlyIncreasing asked.now }
     ensures { IsTrue result ↔ Contains asked.now goal }
 {
-    asked.contains(&goal)
-}
-
-/// Whether the pair stands in the history.
-fn stands(history: &[Pair], pair: Pair) -> bool
-    ensures { IsTrue result ↔ Contains history.now pair }
-{
-    history.contains(&pair)
+    asked.binary_search(&goal).is_ok()
 }
 
 /// Whether a pair after those that the stamp's search saw begins at a goal that it asked.
 fn is_stale(history: &[Pair], stamp: &Stamp) -> bool
-    requires { stamp.now.seen ≤ length history.now }
+    requires { IsFront history.now stamp.now }
     ensures { IsTrue result ↔ IsStale history.now stamp.now }
 {
-    for place in stamp.seen as usize..history.len() {
-        if asks(stamp.asked.items(), history[place].goal) {
+    for position in stamp.seen as usize..history.len() {
+        if asks(stamp.asked.items(), history[position].goal) {
             return true;
         }
     }
@@ -62,7 +57,7 @@ fn is_stale(history: &[Pair], stamp: &Stamp) -> bool
 
 /// Whether the goal of the task is dirty and in no flight.
 fn is_claimable(history: &[Pair], task: &Task) -> bool
-    requires { HasSeen history.now task.now }
+    requires { HasFront history.now task.now }
     ensures { IsTrue result ↔ IsClaimable history.now task.now }
 {
     if task.flies {
@@ -76,27 +71,33 @@ fn is_claimable(history: &[Pair], task: &Task) -> bool
 
 /// The first task that is claimable.
 pub(crate) fn first_claimable(history: &[Pair], tasks: &[Task]) -> Option<usize>
-    requires { All (HasSeen history.now) tasks.now }
+    requires { All (HasFront history.now) tasks.now }
     ensures { IsFirstClaimable history.now tasks.now result }
 {
-    for (place, task) in tasks.iter().enumerate() {
+    for (position, task) in tasks.iter().enumerate() {
         if is_claimable(history, task) {
-            return Some(place);
+            return Some(position);
         }
     }
     None
 }
 
 /// Adds the pairs of the goal and these outs that do not stand in the history.
-pub(crate) fn add_pairs(history: &mut Vec<Pair>, goal: u32, outs: &[u32]) -> Result<(), AllocError>
-    requires { IsStrictlyIncreasing outs.now }
+pub(crate) fn add_pairs(
+    history: &mut Vec<Pair>,
+    known: &Known,
+    goal: u32,
+    outs: &[u32],
+) -> Result<(), AllocError>
+    requires rise { IsStrictlyIncreasing outs.now }
+    requires knows { Knows known.now history.old.items }
     ensures ok { OnOk result (AddsNew history.old.items goal outs.now history.new.items) }
     ensures err { OnErr result (history.new.items ≡ history.old.items) }
 {
     let len = history.len();
     for out in outs {
         let pair = Pair { goal, out: *out };
-        if !stands(history, pair) {
+        if !known.has(pair) {
             if let Err(failed) = history.push(pair) {
                 history.truncate(len);
                 return Err(failed.into());

@@ -6,14 +6,14 @@ use joern_io::List;
 
 /// When a goal was last published: how many pairs its search saw, and the goals that it asked.
 #[derive(Drop)]
-pub struct Stamp {
+pub(crate) struct Stamp {
     pub seen: u64,
     pub asked: List<u32>,
 }
 
 /// A wanted goal, its stamp where it has one, and whether it is in flight.
 #[derive(Drop)]
-pub struct Task {
+pub(crate) struct Task {
     pub goal: u32,
     pub stamp: Option<Stamp>,
     pub flies: bool,
