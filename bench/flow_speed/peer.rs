@@ -48,7 +48,7 @@ struct Flow {
     reached: usize,
 }
 
-const RUNS: usize = 9;
+const RUNS: usize = 49;
 
 /// The pairs, and what is marked where there is room for marks.
 fn run(flow: &Flow, room: usize, marks: &mut [u8]) -> Vec<Summary> {
@@ -69,8 +69,19 @@ fn run(flow: &Flow, room: usize, marks: &mut [u8]) -> Vec<Summary> {
     pairs
 }
 
-/// The median milliseconds of the table alone, and of the table with the search.
-fn times(flow: &Flow, room: usize) -> (f64, f64) {
+/// Milliseconds of one call: the median of the runs, and the least of them.
+struct Time {
+    median: f64,
+    least: f64,
+}
+
+fn time_of(mut runs: Vec<f64>) -> Time {
+    runs.sort_by(f64::total_cmp);
+    Time { median: runs[RUNS / 2], least: runs[0] }
+}
+
+/// The times of the table alone, and of the table with the search.
+fn times(flow: &Flow, room: usize) -> (Time, Time) {
     let mut alone = Vec::new();
     let mut both = Vec::new();
     let mut marks = vec![0u8; flow.vertices as usize];
@@ -82,9 +93,7 @@ fn times(flow: &Flow, room: usize) -> (f64, f64) {
         run(flow, room, &mut marks);
         both.push(start.elapsed().as_secs_f64() * 1000.0);
     }
-    alone.sort_by(f64::total_cmp);
-    both.sort_by(f64::total_cmp);
-    (alone[RUNS / 2], both[RUNS / 2])
+    (time_of(alone), time_of(both))
 }
 
 fn read(path: &str) -> Flow {
@@ -243,11 +252,12 @@ fn main() {
         return random(args[1].parse().expect("a count"));
     }
     if args.first().is_some_and(|word| word == "--shapes") {
-        println!("| Shape | 1,000 methods, ms | 16,000 methods, ms | Growth |\n|---|---|---|---|");
+        println!("| Shape | 1,000 methods, ms | 16,000 methods, ms | Growth | Least | Least | Growth |\n|---|---|---|---|---|---|---|");
         for name in ["chain", "recursion", "fan"] {
             let few = times(&shape(name, 1_000), 20_000).1;
             let many = times(&shape(name, 16_000), 20_000).1;
-            println!("| {name} | {few:.2} | {many:.2} | {:.1} |", many / few);
+            print!("| {name} | {:.2} | {:.2} | {:.1} ", few.median, many.median, many.median / few.median);
+            println!("| {:.2} | {:.2} | {:.1} |", few.least, many.least, many.least / few.least);
         }
         return;
     }
@@ -261,6 +271,7 @@ fn main() {
         assert_eq!(reached, flow.reached, "{path}");
         let (alone, both) = times(&flow, flow.pairs.len() + 1);
         let name = path.rsplit('/').next().unwrap_or(path);
+        let (alone, both) = (alone.median, both.median);
         println!("| {name} | {} | {} | {reached} | {alone:.1} | {both:.1} |", flow.vertices, pairs.len());
     }
 }
