@@ -1,6 +1,6 @@
 -- The lexemes that are left at a place, and what a reader does there.
 
-use Rattle.std.proofs.Common.{◌≡◌, ℕ, suc, zero, false, ◌+◌, ◌<◌, ◌≤◌, List, [], ◌∷◌, Ok, Err, Some, None, length, drop, map, refl, ap, ◌∙◌, arith}
+use Rattle.std.proofs.Common.{◌≡◌, ℕ, suc, zero, false, ◌+◌, ◌-◌, ◌<◌, ◌≤◌, List, [], ◌∷◌, Ok, Err, Some, None, length, drop, map, refl, ap, ◌∙◌, arith}
 use Rattle.std.specs.List.{slice_get}
 use Rattle.c_lexer.specs.declared.token.Token.{Token}
 use Rattle.c_lexer.specs.Lexemes.{Lexeme}
@@ -53,9 +53,26 @@ some_left bytes tokens kept at inside h =
     let t = some_before (items_at tokens kept) at (omega (arith, many)) in
     (lexeme_in bytes t.0, there_is bytes (items_at tokens kept) at t.0 t.1)
 
+length_map : (bytes : List ℕ) (tokens : List Token) → length (map (lexeme_in bytes) tokens) ≡ length tokens
+length_map bytes [] = refl
+length_map bytes (token ∷ tokens) = ap suc (length_map bytes tokens)
+
+length_drop : (lexemes : List Lexeme) (at : ℕ) → length (drop at lexemes) ≡ length lexemes - at
+length_drop lexemes zero = omega arith
+length_drop [] (suc at) = omega arith
+length_drop (lexeme ∷ lexemes) (suc at) = let h = length_drop lexemes at in omega (arith, h)
+
+-- How many are left.
+pub many_left : (bytes : List ℕ) (tokens : List Token) (kept : List ℕ) (at : ℕ) → ArePositionsIn tokens kept → length (drop at (kept_lexemes bytes tokens kept)) ≡ length kept - at
+many_left bytes tokens kept at inside =
+    let many = length-items_at tokens kept inside in
+    let mapped = length_map bytes (items_at tokens kept) in
+    let dropped = length_drop (kept_lexemes bytes tokens kept) at in
+    omega (arith, many, mapped, dropped)
+
 -- ---- What a reader does
 
-length-numbered : (number : ℕ) (lexemes : List Lexeme) → length (numbered number lexemes) ≡ length lexemes
+pub length-numbered : (number : ℕ) (lexemes : List Lexeme) → length (numbered number lexemes) ≡ length lexemes
 length-numbered number [] = refl
 length-numbered number (lexeme ∷ lexemes) = ap suc (length-numbered (number + 1) lexemes)
 

@@ -70,6 +70,13 @@ impl<'t> Cursor<'t> {
         self.at as u32
     }
 
+    /// How many kept tokens are left.
+    pub fn left(&self) -> usize
+        ensures { result ≡ length self.now.left }
+    {
+        self.kept.len() - self.at
+    }
+
     /// The nesting level around the place.
     pub fn level(&self) -> u32
         ensures { result ≡ self.now.level }

@@ -29,6 +29,7 @@ fn kept_tokens_are_taken_one_by_one(rt: HostRuntime) -> Result<(), Fail> {
     let kept = [0, 2, 3];
     let mut cursor = Cursor::new(bytes, &tokens, &kept);
     assert_eq!(rt; cursor.at(), 0);
+    assert_eq!(rt; cursor.left(), 3);
     assert_eq!(rt; cursor.level(), 0);
     assert_eq!(rt; cursor.room(), 257);
     assert_eq!(rt; cursor.ahead(), Some(Kind::Word));

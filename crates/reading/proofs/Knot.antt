@@ -1,14 +1,14 @@
 -- Rules that hold one another in brackets are read exactly. The knot is tied twice: by turns, for
 -- which it is predictive, and by levels.
 
-use Rattle.std.proofs.Common.{◌≡◌, ℕ, zero, suc, ◌+◌, ◌<◌, ◌≤◌, List, [], arith}
+use Rattle.std.proofs.Common.{◌≡◌, ℕ, zero, suc, ◌+◌, ◌<◌, ◌≤◌, List, [], arith, true}
 use Rattle.reading.specs.Terminals.{has}
 use Rattle.reading.specs.Languages.{Leveled}
 use Rattle.reading.specs.Rules.{Rule}
 use Rattle.reading.specs.Readers.{Reader, refuse}
 use Rattle.reading.specs.Nesting.{nested, nested_reader}
 use Rattle.reading.specs.Exact.{HIGHEST_LEVEL, room_on, IsExact}
-use Rattle.reading.proofs.Words.{Some}
+use Rattle.reading.proofs.Words.{Some, Ready, Empty}
 use Rattle.reading.proofs.Predictive.{IsPredictive, predictive_never}
 use Rattle.reading.proofs.ExactEither.{exact_same}
 use Rattle.reading.proofs.ReadBy.{Stage, below, whole, Nullable, is_null, Keeps, IsReadBy}
@@ -54,12 +54,16 @@ module _ {Token Scope Around Name : Type 0} {Value : Name → Type 0} {terminal_
     keeps = λ d h. absurd (omega arith);
     some = some n level;
     exact = λ s. absurd s;
+    ready = λ s. absurd s;
+    empty = λ s. absurd s;
   }
   on (suc most) n level = record {
     predictive = predictive_on most (on most) n level;
     keeps = keeps_on most (on most) n level;
     some = some n level;
     exact = λ s. absurd s;
+    ready = λ s. absurd s;
+    empty = λ s. absurd s;
   }
 
   -- ---- By levels
@@ -86,18 +90,34 @@ module _ {Token Scope Around Name : Type 0} {Value : Name → Type 0} {terminal_
       (λ d w a x. body_to n level d scope w a x) (λ d w a x. body_from n level d scope w a x) ts _
       ((step whole level room (record { is = λ s. even }) (λ d. nested body d (suc level)) (nested_reader parse room) ih n).exact tt tt around scope ts)
 
+  ready_on : (room level : ℕ) → room ≡ room_on level → Reads room (suc level) → (n : Name) (scope : Scope) (t : Token) → has (first n) (terminal_of scope t) ≡ true →
+      Ready (λ d. nested body d level n scope) t
+  ready_on room level even ih n scope t h =
+      let w = (step whole level room (record { is = λ s. even }) (λ d. nested body d (suc level)) (nested_reader parse room) ih n).ready tt tt scope t h in
+      let m = body_to n level w.turns scope w.word w.value w.is in record { word = w.word; value = w.value; turns = m.0; rest = w.rest; begins = w.begins; is = m.1 }
+
+  empty_on : (room level : ℕ) → room ≡ room_on level → Reads room (suc level) → (n : Name) → is_null (null n) ≡ true → (scope : Scope) →
+      Empty (λ d. nested body d level n scope)
+  empty_on room level even ih n h scope =
+      let w = (step whole level room (record { is = λ s. even }) (λ d. nested body d (suc level)) (nested_reader parse room) ih n).empty tt tt h scope in
+      let m = body_to n level w.turns scope [] w.value w.is in record { value = w.value; turns = m.0; is = m.1 }
+
   all_levels : (room level : ℕ) → level + room ≡ HIGHEST_LEVEL + 2 → Reads room level
   all_levels zero level even n = record {
     predictive = λ d h. (on (suc d) n level).predictive d (omega arith);
     keeps = λ d h. (on (suc d) n level).keeps d (omega arith);
     some = some n level;
     exact = λ s g. absurd (omega arith);
+    ready = λ s g. absurd (omega arith);
+    empty = λ s g. absurd (omega arith);
   }
   all_levels (suc room) level even n = record {
     predictive = λ d h. (on (suc d) n level).predictive d (omega arith);
     keeps = λ d h. (on (suc d) n level).keeps d (omega arith);
     some = some n level;
     exact = λ s g. exact_on room level (omega arith) (all_levels room (suc level) (omega arith)) n;
+    ready = λ s g. ready_on room level (omega arith) (all_levels room (suc level) (omega arith)) n;
+    empty = λ s g. empty_on room level (omega arith) (all_levels room (suc level) (omega arith)) n;
   }
 
   -- On a level that is not too high, or the first that is, each of the rules is read exactly.
@@ -109,4 +129,6 @@ module _ {Token Scope Around Name : Type 0} {Value : Name → Type 0} {terminal_
         keeps = r.keeps;
         some = r.some;
         exact = λ s g. r.exact s (omega arith);
+        ready = λ s g. r.ready s (omega arith);
+        empty = λ s g. r.empty s (omega arith);
       }

@@ -13,5 +13,7 @@ pub mod ReadThen
 pub mod ReadEither
 pub mod ReadSteps
 pub mod ReadTurns
+pub mod ReadGuarded
 pub mod Knot
+pub mod Turns
 pub mod Sample

@@ -1,19 +1,18 @@
 -- One part or the other, chosen by the next token, is read exactly.
 
-use Rattle.std.proofs.Common.{◌≡◌, inl, inr, ℕ, suc, ◌<◌, Bool, true, false, if◌then◌else◌, List, [], ◌∷◌, ◌++◌, refl, sym, ap, subst, arith}
+use Rattle.std.proofs.Common.{◌≡◌, inl, inr, ℕ, suc, Bool, true, false, if◌then◌else◌, List, [], ◌∷◌, ◌++◌, refl, sym, ap, subst, arith}
 use Rattle.reading.specs.Terminals.{has, is_within, are_disjoint}
 use Rattle.reading.specs.Languages.{tokens_of}
 use Rattle.reading.specs.Rules.{Rule, ◌>>=◌, ◌or◌, pure, one}
 use Rattle.reading.specs.Readers as reader
 use Rattle.reading.specs.Readers.{Reader, Input, begins, branch, and_then, expect}
 use Rattle.reading.specs.Exact.{IsExact}
-use Rattle.reading.proofs.Sets.{never, within, within_itself, within_left, within_right, disjoint}
-use Rattle.reading.proofs.Words.{Some, Ready, same_word}
+use Rattle.reading.proofs.Sets.{never, within, within_itself, within_left, within_right, in_union, disjoint}
+use Rattle.reading.proofs.Words.{Some, Ready, ready_in, same_word}
 use Rattle.reading.proofs.PredictiveEither.{predictive_either}
 use Rattle.reading.proofs.ExactEither.{exact_left, exact_right}
 use Rattle.reading.proofs.ReadBy.{Stage, IsWhole, covers_all, Nullable, no, keeping, is_null, IsReadBy, read_pure}
-use Rattle.reading.proofs.ReadOne.{Sample, HasRoom}
-use Rattle.reading.proofs.ReadThen.{goes_on, read_token, goes_on_at}
+use Rattle.reading.proofs.ReadThen.{goes_on, goes_on_at}
 
 -- A token that may stand there, and some rest.
 pub ready_token : {Token Scope A B : Type 0} {terminal_of : Scope → Token → ℕ} {IsLexeme : Token → Type 0} {set : List ℕ} {view : Token → A} {level : ℕ}
@@ -38,62 +37,63 @@ ready_token {view = view} {level = level} f scope t h some =
 
 module _ {Token Scope Around : Type 0} {terminal_of : Scope → Token → ℕ} {IsLexeme : Token → Type 0} {stage : Stage} {given A : Type 0} where
   module _ {X Y : ℕ → Rule Token Scope A} {p q : Reader Token Scope Around A} {null_y : Nullable} {first_x first_y : List ℕ} {last_x last_y : A → List ℕ}
-      (set first' : List ℕ) (last' : A → List ℕ) (rx : IsReadBy terminal_of IsLexeme stage given X p no first_x last_x)
-      (ry : IsReadBy terminal_of IsLexeme stage given Y q null_y first_y last_y) (tests : is_within first_x set ≡ true) (against : are_disjoint first_y set ≡ true)
-      (ready : is_null null_y ≡ true → (scope : Scope) (t : Token) → has set (terminal_of scope t) ≡ true → Ready (λ d. X d scope) t) where
+      (last' : A → List ℕ) (rx : IsReadBy terminal_of IsLexeme stage given X p no first_x last_x)
+      (ry : IsReadBy terminal_of IsLexeme stage given Y q null_y first_y last_y) (against : are_disjoint first_y first_x ≡ true) where
     abbrev In : Scope → Token → Bool
-    In scope t = has set (terminal_of scope t)
+    In scope t = has first_x (terminal_of scope t)
 
     exact_at : IsWhole stage → given → (around : Around) (scope : Scope) (ts : List Token) (b : Bool) → begins (In scope) ts ≡ b →
         IsExact IsLexeme around (λ d. (X d or Y d) scope) ts
         (if b then p (record { tokens = ts; scope = scope; around = around }) else q (record { tokens = ts; scope = scope; around = around }))
     exact_at s g around scope [] true h = never h
     exact_at s g around scope (t ∷ ts) true h =
-        exact_left IsLexeme around (λ d. X d scope) (λ d. Y d scope) (is_null null_y) (λ t. has first_x (terminal_of scope t)) (λ t. has first_y (terminal_of scope t))
+        exact_left IsLexeme around (λ d. X d scope) (λ d. Y d scope) (is_null null_y) (In scope) (λ t. has first_y (terminal_of scope t))
         (λ end t. has (last_x end.0) (terminal_of end.1 t)) (λ end t. has (last_y end.0) (terminal_of end.1 t))
         (λ d. rx.predictive d (covers_all stage s d) scope) (λ d. ry.predictive d (covers_all stage s d) scope) (In scope)
-        (λ t. disjoint first_y set against (terminal_of scope t)) t ts h (λ e. ready e scope t h)
+        (λ t. disjoint first_y first_x against (terminal_of scope t)) t ts h (λ e. rx.ready s g scope t h)
         (p (record { tokens = t ∷ ts; scope = scope; around = around })) (rx.exact s g around scope (t ∷ ts))
     exact_at s g around scope ts false h =
-        exact_right IsLexeme around (λ d. X d scope) (λ d. Y d scope) (is_null null_y) (λ t. has first_x (terminal_of scope t)) (λ t. has first_y (terminal_of scope t))
+        exact_right IsLexeme around (λ d. X d scope) (λ d. Y d scope) (is_null null_y) (In scope) (λ t. has first_y (terminal_of scope t))
         (λ end t. has (last_x end.0) (terminal_of end.1 t)) (λ end t. has (last_y end.0) (terminal_of end.1 t))
-        (λ d. rx.predictive d (covers_all stage s d) scope) (λ d. ry.predictive d (covers_all stage s d) scope) (In scope)
-        (λ t. within first_x set tests (terminal_of scope t)) ts h (q (record { tokens = ts; scope = scope; around = around })) (ry.exact s g around scope ts)
+        (λ d. rx.predictive d (covers_all stage s d) scope) (λ d. ry.predictive d (covers_all stage s d) scope) (In scope) (λ t e. e) ts h
+        (q (record { tokens = ts; scope = scope; around = around })) (ry.exact s g around scope ts)
+
+    ready_either : IsWhole stage → given → (scope : Scope) (t : Token) → has (first_x ++ first_y) (terminal_of scope t) ≡ true → Ready (λ d. (X d or Y d) scope) t
+    ready_either s g scope t h = elim (in_union first_x first_y (terminal_of scope t) h) [
+      | inl x ↦ ready_in (λ d w a y. inl y) (rx.ready s g scope t x)
+      | inr y ↦ ready_in (λ d w a z. inr z) (ry.ready s g scope t y)
+    ]
 
     -- Where the second part is empty, what begins the first goes on behind it.
-    pub read_or : is_within first_x first' ≡ true → is_within first_y first' ≡ true → ((a : A) → is_within (last_x a) (last' a) ≡ true) →
-        ((a : A) → is_within (last_y a) (last' a) ≡ true) → ((d : ℕ) (scope : Scope) (end : A × Scope) → Y d scope [] end → goes_on null_y first_x (last' end.0) ≡ true) →
-        IsReadBy terminal_of IsLexeme stage given (λ d. X d or Y d) (branch terminal_of set p q) null_y first' last'
-    read_or firsts_x firsts_y lasts_x lasts_y nulls = record {
-      predictive = λ d h scope. predictive_either (X d scope) (X (suc d) scope) (Y d scope) (Y (suc d) scope) (is_null null_y)
-          (λ t. has first_x (terminal_of scope t)) (λ t. has first_y (terminal_of scope t))
+    pub read_or : ((a : A) → is_within (last_x a) (last' a) ≡ true) → ((a : A) → is_within (last_y a) (last' a) ≡ true) →
+        ((d : ℕ) (scope : Scope) (end : A × Scope) → Y d scope [] end → goes_on null_y first_x (last' end.0) ≡ true) →
+        IsReadBy terminal_of IsLexeme stage given (λ d. X d or Y d) (branch terminal_of first_x p q) null_y (first_x ++ first_y) last'
+    read_or lasts_x lasts_y nulls = record {
+      predictive = λ d h scope. predictive_either (X d scope) (X (suc d) scope) (Y d scope) (Y (suc d) scope) (is_null null_y) (In scope) (λ t. has first_y (terminal_of scope t))
           (λ end t. has (last_x end.0) (terminal_of end.1 t)) (λ end t. has (last_y end.0) (terminal_of end.1 t)) (rx.predictive d h scope) (ry.predictive d h scope)
-          (λ t e g. disjoint first_y set against (terminal_of scope t) g (within first_x set tests (terminal_of scope t) e))
-          (λ t. has first' (terminal_of scope t)) (λ end t. has (last' end.0) (terminal_of end.1 t)) (λ t. within first_x first' firsts_x (terminal_of scope t))
-          (λ t. within first_y first' firsts_y (terminal_of scope t)) (λ end t. within (last_x end.0) (last' end.0) (lasts_x end.0) (terminal_of end.1 t))
+          (λ t e g. disjoint first_y first_x against (terminal_of scope t) g e)
+          (λ t. has (first_x ++ first_y) (terminal_of scope t)) (λ end t. has (last' end.0) (terminal_of end.1 t))
+          (λ t. within first_x (first_x ++ first_y) (within_left first_x first_y) (terminal_of scope t))
+          (λ t. within first_y (first_x ++ first_y) (within_right first_x first_y) (terminal_of scope t))
+          (λ end t. within (last_x end.0) (last' end.0) (lasts_x end.0) (terminal_of end.1 t))
           (λ end t. within (last_y end.0) (last' end.0) (lasts_y end.0) (terminal_of end.1 t))
           (λ end y t e. goes_on_at terminal_of null_y first_x (last' end.0) scope end.1 ((ry.predictive d h scope).nullable end y) (ry.keeps d h scope end y) (nulls d scope end y) t e);
       keeps = λ d h scope end x. elim x [ inl y ↦ never ((rx.predictive d h scope).nullable end y) | inr y ↦ ry.keeps d h scope end y ];
       some = λ scope. same_word (λ d w a x. inl x) (rx.some scope);
       exact = λ s g around scope ts. exact_at s g around scope ts (begins (In scope) ts) refl;
+      ready = ready_either;
+      empty = λ s g e scope. let x = ry.empty s g e scope in record { value = x.value; turns = x.turns; is = inr x.is };
     }
 
   -- Neither part is nullable, and their follow-last sets are the same.
   pub read_either : {X Y : ℕ → Rule Token Scope A} {p q : Reader Token Scope Around A} {first_x first_y : List ℕ} {last : A → List ℕ} →
       IsReadBy terminal_of IsLexeme stage given X p no first_x last → IsReadBy terminal_of IsLexeme stage given Y q no first_y last → are_disjoint first_y first_x ≡ true →
       IsReadBy terminal_of IsLexeme stage given (λ d. X d or Y d) (branch terminal_of first_x p q) no (first_x ++ first_y) last
-  read_either {first_x = first_x} {first_y = first_y} {last = last} rx ry against =
-      read_or first_x (first_x ++ first_y) last rx ry (within_itself first_x) against (λ e. never e) (within_left first_x first_y) (within_right first_x first_y)
-      (λ a. within_itself (last a)) (λ a. within_itself (last a)) (λ d scope end y. refl)
+  read_either {last = last} rx ry against = read_or last rx ry against (λ a. within_itself (last a)) (λ a. within_itself (last a)) (λ d scope end y. refl)
 
-  -- A token and what follows it, or nothing.
-  pub read_optional : {B : Type 0} {set : List ℕ} {view : Token → B} {level room : ℕ} {f : ℕ → B → Rule Token Scope A} {q : B → Reader Token Scope Around A} {null_f : B → Nullable}
-      {first_f : B → List ℕ} {last_f : A → List ℕ} (last' : A → List ℕ) (a : A) → HasRoom stage level room → ((scope : Scope) → Sample terminal_of IsLexeme set scope) →
-      ((b : B) → IsReadBy terminal_of IsLexeme stage (0 < room) (λ d. f d b) (q b) (null_f b) (first_f b) last_f) → ((a : A) → is_within (last_f a) (last' a) ≡ true) →
-      is_within set (last' a) ≡ true →
-      IsReadBy terminal_of IsLexeme stage given (λ d. (one terminal_of set view level >>= f d) or pure a)
-      (branch terminal_of set (λ input. and_then (expect terminal_of set view room input) q) (reader.pure a)) keeping set last'
-  read_optional {set = set} {f = f} last' a fits sample rf lasts goes =
-      read_or set set last' (read_token fits sample rf) (read_pure a) (within_itself set) refl (λ e scope t h. ready_token f scope t h (λ b. (rf b).some scope))
-      (within_itself set) refl lasts (λ b. refl)
-      (λ d scope end y. subst (λ z. is_within set (last' z) ≡ true) (sym (ap (λ (z : _). z.0) y.same)) goes)
+  -- A part that is not nullable, or nothing.
+  pub read_optional : {X : ℕ → Rule Token Scope A} {p : Reader Token Scope Around A} {first : List ℕ} {last : A → List ℕ} (last' : A → List ℕ) (a : A) →
+      IsReadBy terminal_of IsLexeme stage given X p no first last → ((a : A) → is_within (last a) (last' a) ≡ true) → is_within first (last' a) ≡ true →
+      IsReadBy terminal_of IsLexeme stage given (λ d. X d or pure a) (branch terminal_of first p (reader.pure a)) keeping (first ++ []) last'
+  read_optional {first = first} last' a r lasts goes =
+      read_or last' r (read_pure a) refl lasts (λ b. refl) (λ d scope end y. subst (λ z. is_within first (last' z) ≡ true) (sym (ap (λ (z : _). z.0) y.same)) goes)

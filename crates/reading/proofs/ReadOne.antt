@@ -39,8 +39,9 @@ module _ {Token Scope A : Type 0} (terminal_of : Scope → Token → ℕ) (set :
   none_empty : (scope : Scope) (w : List (Leveled Token)) (b : A × Scope) → tokens_of w ≡ [] → IsOne terminal_of set view level scope w b → ⊥
   none_empty scope w b e x = absurd (let f : x.token ∷ [] ≡ [] = ap tokens_of (sym x.is) ∙ e in cc)
 
-  module _ {Around : Type 0} (IsLexeme : Token → Type 0) (stage : Stage) (room : ℕ) (fits : HasRoom stage level room) (sample : (scope : Scope) → Sample terminal_of IsLexeme set scope) where
-    taken : IsWhole stage → (around : Around) (scope : Scope) (n : ℕ) → room ≡ n → (t : Token) (ts : List Token) → has set (terminal_of scope t) ≡ true →
+  module _ {Around : Type 0} (IsLexeme : Token → Type 0) (stage : Stage) (room : ℕ) (fits : HasRoom stage level room) where
+    -- A token that may stand there is taken, or is too deep.
+    pub taken : IsWhole stage → (around : Around) (scope : Scope) (n : ℕ) → room ≡ n → (t : Token) (ts : List Token) → has set (terminal_of scope t) ≡ true →
         IsExact IsLexeme around (λ d. one terminal_of set view level scope) (t ∷ ts)
         (take_first view n (t ∷ ts) (record { tokens = t ∷ ts; scope = scope; around = around }))
     taken s around scope zero e t ts h =
@@ -49,26 +50,27 @@ module _ {Token Scope A : Type 0} (terminal_of : Scope → Token → ℕ) (set :
         reads ((t, level) ∷ []) ts 0 (view t) scope refl (let k = fits.is s in (omega arith, tt)) (the_one scope t h)
         (λ s us more k d w b g x. absurd (let f : x.token ∷ [] ≡ t ∷ s ∷ more = ap tokens_of (sym x.is) ∙ g in cc))
 
-    at_token : IsWhole stage → (around : Around) (scope : Scope) (t : Token) (ts : List Token) (b : Bool) → has set (terminal_of scope t) ≡ b →
-        IsExact IsLexeme around (λ d. one terminal_of set view level scope) (t ∷ ts)
-        (if b then take_first view room (t ∷ ts) (record { tokens = t ∷ ts; scope = scope; around = around })
-        else Err (offends (record { tokens = t ∷ ts; scope = scope; around = around })))
-    at_token s around scope t ts true h = taken s around scope room refl t ts h
-    at_token s around scope t ts false h =
-        let k = sample scope in
-        refuses [] ((k.token, level) ∷ []) (t ∷ ts) 0 (view k.token, scope) scope refl tt (k.lexeme, tt) (the_one scope k.token k.fits)
-        (λ s us more l d w b g x. let e : t ≡ s = cc in none_begins scope t more w b h (g ∙ ap (λ z. z ∷ more) (sym e)) x)
-        (λ d w b g x. none_empty scope w b g x)
+    module _ (sample : (scope : Scope) → Sample terminal_of IsLexeme set scope) where
+      at_token : IsWhole stage → (around : Around) (scope : Scope) (t : Token) (ts : List Token) (b : Bool) → has set (terminal_of scope t) ≡ b →
+          IsExact IsLexeme around (λ d. one terminal_of set view level scope) (t ∷ ts)
+          (if b then take_first view room (t ∷ ts) (record { tokens = t ∷ ts; scope = scope; around = around })
+          else Err (offends (record { tokens = t ∷ ts; scope = scope; around = around })))
+      at_token s around scope t ts true h = taken s around scope room refl t ts h
+      at_token s around scope t ts false h =
+          let k = sample scope in
+          refuses [] ((k.token, level) ∷ []) (t ∷ ts) 0 (view k.token, scope) scope refl tt (k.lexeme, tt) (the_one scope k.token k.fits)
+          (λ s us more l d w b g x. let e : t ≡ s = cc in none_begins scope t more w b h (g ∙ ap (λ z. z ∷ more) (sym e)) x)
+          (λ d w b g x. none_empty scope w b g x)
 
-    one_exact : IsWhole stage → (around : Around) (scope : Scope) (ts : List Token) →
-        IsExact IsLexeme around (λ d. one terminal_of set view level scope) ts
-        (expect terminal_of set view room (record { tokens = ts; scope = scope; around = around }))
-    unfolding expect
-    one_exact s around scope [] =
-        let k = sample scope in
-        refuses [] ((k.token, level) ∷ []) [] 0 (view k.token, scope) scope refl tt (k.lexeme, tt) (the_one scope k.token k.fits)
-        (λ s us more l d w b g x. absurd (cc)) (λ d w b g x. none_empty scope w b g x)
-    one_exact s around scope (t ∷ ts) = at_token s around scope t ts (has set (terminal_of scope t)) refl
+      one_exact : IsWhole stage → (around : Around) (scope : Scope) (ts : List Token) →
+          IsExact IsLexeme around (λ d. one terminal_of set view level scope) ts
+          (expect terminal_of set view room (record { tokens = ts; scope = scope; around = around }))
+      unfolding expect
+      one_exact s around scope [] =
+          let k = sample scope in
+          refuses [] ((k.token, level) ∷ []) [] 0 (view k.token, scope) scope refl tt (k.lexeme, tt) (the_one scope k.token k.fits)
+          (λ s us more l d w b g x. absurd (cc)) (λ d w b g x. none_empty scope w b g x)
+      one_exact s around scope (t ∷ ts) = at_token s around scope t ts (has set (terminal_of scope t)) refl
 
 -- What follows a token may rest on there being room for it.
 pub one_guard : {Token Scope A : Type 0} {terminal_of : Scope → Token → ℕ} {set : List ℕ} {view : Token → A} {level room : ℕ} {stage : Stage} →
@@ -92,4 +94,13 @@ module _ {Token Scope Around A : Type 0} {terminal_of : Scope → Token → ℕ}
       is = λ e h. the_one terminal_of set view level scope k.token k.fits;
     };
     exact = λ s g around scope ts. one_exact terminal_of set view level IsLexeme stage room fits sample s around scope ts;
+    ready = λ s g scope t h. record {
+      word = (t, level) ∷ [];
+      value = (view t, scope);
+      turns = 0;
+      rest = [];
+      begins = refl;
+      is = the_one terminal_of set view level scope t h;
+    };
+    empty = λ s g e scope. never e;
   }

@@ -16,7 +16,6 @@ use Rattle.reading.proofs.ExactEither.{exact_same, exact_left, exact_right}
 use Rattle.reading.proofs.ReadBy.{Stage, Covers, IsWhole, covers_all, Nullable, no, keeping, IsReadBy, read_pure}
 use Rattle.reading.proofs.ReadOne.{Sample, HasRoom}
 use Rattle.reading.proofs.ReadThen.{read_token}
-use Rattle.reading.proofs.ReadEither.{ready_token}
 
 -- ---- Words of more steps
 
@@ -54,8 +53,7 @@ fewer_left ts left (s ∷ run) n e h k =
 module _ {Token Scope Around : Type 0} {terminal_of : Scope → Token → ℕ} {IsLexeme : Token → Type 0} {stage : Stage} {given T : Type 0} where
   module _ {step : ℕ → T → Rule Token Scope T} {q : T → Reader Token Scope Around T} {set : List ℕ} (last last' : List ℕ)
       (rs : (s : T) → IsReadBy terminal_of IsLexeme stage given (λ d. step d s) (q s) no set (λ a. last))
-      (apart : are_disjoint last set ≡ true) (lasts : is_within last last' ≡ true) (goes : is_within set last' ≡ true)
-      (ready : (s : T) (scope : Scope) (t : Token) → has set (terminal_of scope t) ≡ true → Ready (λ d. step d s scope) t) where
+      (apart : are_disjoint last set ≡ true) (lasts : is_within last last' ≡ true) (goes : is_within set last' ≡ true) where
     abbrev Step : ℕ → T × Scope → Language Token (T × Scope)
     Step d z = step d z.0 z.1
 
@@ -107,9 +105,9 @@ module _ {Token Scope Around : Type 0} {terminal_of : Scope → Token → ℕ} {
     not_none : IsWhole stage → (d : ℕ) (z a : T × Scope) (run : List (Leveled Token)) → Step d z run a → run ≡ [] → ⊥
     not_none h d z a run x e = never (((rs z.0).predictive d (covers_all stage h d) z.1).nullable a (subst (λ y. Step d z y a) e x))
 
-    ready_more : (z : T × Scope) (t : Token) → Goes z t ≡ true → Ready (λ d. sequence (Step d z) (steps d (Step d))) t
-    ready_more z t e =
-        let w = ready z.0 z.1 t e in record {
+    ready_more : IsWhole stage → given → (z : T × Scope) (t : Token) → Goes z t ≡ true → Ready (λ d. sequence (Step d z) (steps d (Step d))) t
+    ready_more h g z t e =
+        let w = (rs z.0).ready h g z.1 t e in record {
           word = w.word;
           value = w.value;
           turns = w.turns;
@@ -132,7 +130,7 @@ module _ {Token Scope Around : Type 0} {terminal_of : Scope → Token → ℕ} {
       turn_exact n ih z [] true e l = never e
       turn_exact n ih z (t ∷ ts) true e l =
           exact_left IsLexeme around (λ d. sequence (Step d z) (steps d (Step d))) (λ d. empty_word z) true (Goes z) (λ t. false) Follows (λ r t. false)
-          (λ d. first_predictive d (all_at d) z) (λ d. predictive_empty z) (Goes z) (λ c y x. never y) t ts e (λ y. ready_more z t e) _
+          (λ d. first_predictive d (all_at d) z) (λ d. predictive_empty z) (Goes z) (λ c y x. never y) t ts e (λ y. ready_more h g z t e) _
           (exact_then IsLexeme around (λ d. Step d z) (λ d. steps d (Step d)) false (Goes z) Lasts (λ r. true) Goes Follows
           (λ d. (rs z.0).predictive d (all_at d) z.1) (λ d r. all_predictive d (all_at d) r) (λ r t. disjoint last set apart (terminal_of r.1 t))
           (λ r. record { word = []; value = r; turns = 0; lexemes = tt; is = stops 0 (Step 0) r }) (go_on terminal_of set q n) (t ∷ ts)
@@ -158,6 +156,10 @@ module _ {Token Scope Around : Type 0} {terminal_of : Scope → Token → ℕ} {
       keeps = λ d h scope end x. ap (λ (z : T × Scope). z.1) (none_keeps d h (s, scope) end x);
       some = λ scope. record { word = []; value = (s, scope); turns = 0; lexemes = tt; is = λ e h. stops e (Step e) (s, scope) };
       exact = λ h g around scope ts. all_exact h g around (length ts) ts (s, scope) (omega arith);
+      ready = λ h g scope t e. let w = ready_more h g (s, scope) t e in
+          let m = turned_to h (s, scope) w.turns w.word w.value (inl w.is) in
+          record { word = w.word; value = w.value; turns = m.0; rest = w.rest; begins = w.begins; is = m.1 };
+      empty = λ h g e scope. record { value = (s, scope); turns = 0; is = stops 0 (Step 0) (s, scope) };
     }
 
   -- Each step begins with a token of the set.
@@ -168,4 +170,4 @@ module _ {Token Scope Around : Type 0} {terminal_of : Scope → Token → ℕ} {
         IsReadBy terminal_of IsLexeme stage given (λ d. many d (λ r. one terminal_of set view level >>= f d r) s)
         (reader.many terminal_of set (λ r input. and_then (expect terminal_of set view room input) (p r)) s) keeping set (λ a. last')
     read_many_tokens rf apart lasts goes s =
-        read_many last last' (λ r. read_token fits sample (rf r)) apart lasts goes (λ r scope t h. ready_token (λ d. f d r) scope t h (λ a. (rf r a).some scope)) s
+        read_many last last' (λ r. read_token fits sample (rf r)) apart lasts goes s

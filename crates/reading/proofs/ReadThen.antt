@@ -1,16 +1,17 @@
 -- One part after the other is read exactly.
 
-use Rattle.std.proofs.Common.{◌≡◌, ℕ, suc, ◌+◌, ◌<◌, Bool, true, false, List, [], ◌∷◌, ◌++◌, refl, sym, ap, ◌∙◌, subst, arith}
+use Rattle.std.proofs.Common.{◌⊎◌, inl, inr, ◌≡◌, ℕ, suc, ◌+◌, ◌<◌, Bool, true, false, List, [], ◌∷◌, ◌++◌, refl, sym, ap, ◌∙◌, subst, arith}
 use Rattle.reading.specs.Terminals.{has, is_within, are_disjoint}
-use Rattle.reading.specs.Languages.{Leveled}
+use Rattle.reading.specs.Languages.{Leveled, tokens_of}
 use Rattle.reading.specs.Rules.{Rule, ◌>>=◌, pure, one}
 use Rattle.reading.specs.Readers as reader
 use Rattle.reading.specs.Readers.{Reader, Input, and_then, expect}
 use Rattle.reading.specs.Exact.{AreShallow}
-use Rattle.reading.proofs.Sets.{never, within, within_itself, disjoint, disjoint_from_none}
-use Rattle.reading.proofs.Words.{Some, word_of, each_append}
+use Rattle.reading.proofs.Sets.{never, within, within_itself, within_left, within_right, in_union, disjoint, disjoint_from_none}
+use Rattle.reading.proofs.Cutting.{tokens_append}
+use Rattle.reading.proofs.Words.{Some, Ready, Empty, word_of, each_append}
 use Rattle.reading.proofs.PredictiveThen.{predictive_then}
-use Rattle.reading.proofs.ExactThen.{exact_then}
+use Rattle.reading.proofs.ExactThen.{exact_then, raised, raised_left}
 use Rattle.reading.proofs.ReadBy.{Stage, Covers, IsWhole, covers_all, Nullable, no, keeping, changing, is_null, Keeps, IsReadBy, read_pure}
 use Rattle.reading.proofs.ReadOne.{Sample, HasRoom, read_one, one_guard}
 
@@ -102,7 +103,65 @@ module _ {Token Scope Around : Type 0} {terminal_of : Scope → Token → ℕ} {
         joined_keeps null (null_f value.0) null' scope value.1 end.1 (nulls value.0) ((r.predictive d h scope).nullable value x')
         (((rf value.0).predictive d h value.1).nullable end y') (r.keeps d h scope value x') ((rf value.0).keeps d h value.1 end y')
 
-    -- The general case: what is asked of sets is asked in the scopes at their places.
+    up : IsWhole stage → (scope : Scope) (d : ℕ) (w : List (Leveled Token)) (a : A × Scope) → X d scope w a → X (suc d) scope w a
+    up s scope d = (r.predictive d (covers_all stage s d) scope).grows
+
+    up_f : IsWhole stage → (a : A) (scope : Scope) (d : ℕ) (w : List (Leveled Token)) (b : B × Scope) → f d a scope w b → f (suc d) a scope w b
+    up_f s a scope d = ((rf a).predictive d (covers_all stage s d) scope).grows
+
+    -- A word of the first part, and some rest.
+    ready_first : IsWhole stage → (scope : Scope) (t : Token) → Ready (λ d. X d scope) t → Ready (λ d. (X d >>= f d) scope) t
+    ready_first s scope t x =
+        let y = (rf x.value.0).some x.value.1 in record {
+          word = x.word ++ y.word;
+          value = y.value;
+          turns = x.turns + y.turns;
+          rest = x.rest ++ tokens_of y.word;
+          begins = tokens_append x.word y.word ∙ ap (λ z. z ++ tokens_of y.word) x.begins;
+          is = record {
+            front = x.word;
+            back = y.word;
+            value = x.value;
+            split = refl;
+            begin = raised_left (λ d. X d scope) (up s scope) x.turns y.turns x.word x.value x.is;
+            rest = y.is (x.turns + y.turns) (omega arith);
+          };
+        }
+
+    -- The empty word of the first part, and a word of the rest.
+    ready_rest : IsWhole stage → (scope : Scope) (t : Token) (e : Empty (λ d. X d scope)) → Ready (λ d. f d e.value.0 e.value.1) t → Ready (λ d. (X d >>= f d) scope) t
+    ready_rest s scope t e y = record {
+      word = y.word;
+      value = y.value;
+      turns = e.turns + y.turns;
+      rest = y.rest;
+      begins = y.begins;
+      is = record {
+        front = [];
+        back = y.word;
+        value = e.value;
+        split = refl;
+        begin = raised_left (λ d. X d scope) (up s scope) e.turns y.turns [] e.value e.is;
+        rest = raised (λ d. f d e.value.0 e.value.1) (up_f s e.value.0 e.value.1) e.turns y.turns y.word y.value y.is;
+      };
+    }
+
+    empty_both : IsWhole stage → (scope : Scope) (e : Empty (λ d. X d scope)) → Empty (λ d. f d e.value.0 e.value.1) → Empty (λ d. (X d >>= f d) scope)
+    empty_both s scope e y = record {
+      value = y.value;
+      turns = e.turns + y.turns;
+      is = record {
+        front = [];
+        back = [];
+        value = e.value;
+        split = refl;
+        begin = raised_left (λ d. X d scope) (up s scope) e.turns y.turns [] e.value e.is;
+        rest = raised (λ d. f d e.value.0 e.value.1) (up_f s e.value.0 e.value.1) e.turns y.turns [] y.value y.is;
+      };
+    }
+
+    -- The general case: what is asked of sets is asked in the scopes at their places. A token that is
+    -- said to begin the whole begins its first part, or a rest behind an empty one.
     pub read_both : (IsWhole stage → given → (d : ℕ) (scope : Scope) (run : List (Leveled Token)) (end : A × Scope) → X d scope run end → AreShallow run → given_f) →
         ((a : A) → are_disjoint (last a) (first_f a) ≡ true) → ((a : A) → Joins null (null_f a) null') → is_within first first' ≡ true →
         ((d : ℕ) → Covers stage d → (scope : Scope) (end : A × Scope) → X d scope [] end → (t : Token) → has (first_f end.0) (terminal_of end.1 t) ≡ true →
@@ -110,8 +169,11 @@ module _ {Token Scope Around : Type 0} {terminal_of : Scope → Token → ℕ} {
         ((b : B) → is_within (last_f b) (last' b) ≡ true) →
         ((d : ℕ) → Covers stage d → (scope : Scope) (a : A) (end : B × Scope) → f d a scope [] end → (t : Token) → has (last a) (terminal_of scope t) ≡ true →
         has (last' end.0) (terminal_of end.1 t) ≡ true) →
+        (IsWhole stage → given → (scope : Scope) (t : Token) → has first' (terminal_of scope t) ≡ true →
+        (has first (terminal_of scope t) ≡ true) ⊎ Ready (λ d. (X d >>= f d) scope) t) →
+        (IsWhole stage → given → is_null null' ≡ true → (scope : Scope) → Empty (λ d. (X d >>= f d) scope)) →
         IsReadBy terminal_of IsLexeme stage given (λ d. X d >>= f d) (λ input. and_then (p input) q) null' first' last'
-    read_both guard apart nulls firsts firsts_f lasts lasts_x = record {
+    read_both guard apart nulls firsts firsts_f lasts lasts_x begins empties = record {
       predictive = λ d h scope. predictive_then (X d scope) (X (suc d) scope) (λ z. f d z.0 z.1) (λ z. f (suc d) z.0 z.1) (is_null null)
           (λ t. has first (terminal_of scope t)) (λ z t. has (last z.0) (terminal_of z.1 t))
           (λ z. is_null (null_f z.0)) (λ z t. has (first_f z.0) (terminal_of z.1 t)) (λ z t. has (last_f z.0) (terminal_of z.1 t))
@@ -122,6 +184,8 @@ module _ {Token Scope Around : Type 0} {terminal_of : Scope → Token → ℕ} {
           (λ z end x t. lasts_x d h z.1 z.0 end x t);
       keeps = λ d h scope end x. keeps_then nulls d h scope end x.front x.back x.value x.split x.begin x.rest;
       some = some_both;
+      ready = λ s g scope t h. elim (begins s g scope t h) [ inl x ↦ ready_first s scope t (r.ready s g scope t x) | inr y ↦ y ];
+      empty = empties;
       exact = λ s g around scope ts. exact_then IsLexeme around (λ d. X d scope) (λ d z. f d z.0 z.1) (is_null null)
           (λ t. has first (terminal_of scope t)) (λ z t. has (last z.0) (terminal_of z.1 t))
           (λ z. is_null (null_f z.0)) (λ z t. has (first_f z.0) (terminal_of z.1 t)) (λ z t. has (last_f z.0) (terminal_of z.1 t))
@@ -137,12 +201,15 @@ module _ {Token Scope Around : Type 0} {terminal_of : Scope → Token → ℕ} {
         ((a : A) → are_disjoint (last a) (first_f a) ≡ true) → ((a : A) → Joins null (null_f a) null') → is_within first first' ≡ true →
         ((a : A) → goes_on null (first_f a) first' ≡ true) → ((b : B) → is_within (last_f b) (last' b) ≡ true) →
         ((d : ℕ) (scope : Scope) (a : A) (end : B × Scope) → f d a scope [] end → goes_on (null_f a) (last a) (last' end.0) ≡ true) →
+        (IsWhole stage → given → (scope : Scope) (t : Token) → has first' (terminal_of scope t) ≡ true →
+        (has first (terminal_of scope t) ≡ true) ⊎ Ready (λ d. (X d >>= f d) scope) t) →
+        (IsWhole stage → given → is_null null' ≡ true → (scope : Scope) → Empty (λ d. (X d >>= f d) scope)) →
         IsReadBy terminal_of IsLexeme stage given (λ d. X d >>= f d) (λ input. and_then (p input) q) null' first' last'
-    read_both_at guard apart nulls firsts firsts_f lasts lasts_x =
+    read_both_at guard apart nulls firsts firsts_f lasts lasts_x begins empties =
         read_both guard apart nulls firsts
         (λ d h scope end x t m. begins_at terminal_of null (first_f end.0) first' scope end.1 ((r.predictive d h scope).nullable end x) (r.keeps d h scope end x) (firsts_f end.0) t m)
         lasts
-        (λ d h scope a end x t m. goes_on_at terminal_of (null_f a) (last a) (last' end.0) scope end.1 (((rf a).predictive d h scope).nullable end x) ((rf a).keeps d h scope end x) (lasts_x d scope a end x) t m)
+        (λ d h scope a end x t m. goes_on_at terminal_of (null_f a) (last a) (last' end.0) scope end.1 (((rf a).predictive d h scope).nullable end x) ((rf a).keeps d h scope end x) (lasts_x d scope a end x) t m) begins empties
 
   -- The first part is not nullable.
   pub read_then : {given A B : Type 0} {X : ℕ → Rule Token Scope A} {p : Reader Token Scope Around A} {first : List ℕ} {last : A → List ℕ}
@@ -154,18 +221,51 @@ module _ {Token Scope Around : Type 0} {terminal_of : Scope → Token → ℕ} {
       IsReadBy terminal_of IsLexeme stage given (λ d. X d >>= f d) (λ input. and_then (p input) q) no first last'
   read_then {first = first} last' r rf apart lasts nulls =
       read_both_at no first last' r rf (λ s g d scope run end x sh. g) apart (λ a. tt) (within_itself first) (λ a. refl) lasts (λ d scope a end x. nulls a end.0)
+      (λ s g scope t h. inl h) (λ s g e. never e)
 
-  -- The first part is nullable.
-  pub read_join : {given A B : Type 0} {X : ℕ → Rule Token Scope A} {p : Reader Token Scope Around A} {null : Nullable} {first : List ℕ} {last : A → List ℕ}
+  -- The same, where an empty word of the rest is given to what is asked of what goes on behind it.
+  pub read_then_at : {given A B : Type 0} {X : ℕ → Rule Token Scope A} {p : Reader Token Scope Around A} {first : List ℕ} {last : A → List ℕ}
       {f : ℕ → A → Rule Token Scope B} {q : A → Reader Token Scope Around B} {null_f : A → Nullable} {first_f : A → List ℕ} {last_f : B → List ℕ}
-      (null' : Nullable) (first' : List ℕ) (last' : B → List ℕ) → IsReadBy terminal_of IsLexeme stage given X p null first last →
+      (last' : B → List ℕ) → IsReadBy terminal_of IsLexeme stage given X p no first last →
       ((a : A) → IsReadBy terminal_of IsLexeme stage given (λ d. f d a) (q a) (null_f a) (first_f a) last_f) →
-      ((a : A) → are_disjoint (last a) (first_f a) ≡ true) → ((a : A) → Joins null (null_f a) null') → is_within first first' ≡ true →
-      ((a : A) → goes_on null (first_f a) first' ≡ true) → ((b : B) → is_within (last_f b) (last' b) ≡ true) →
-      ((a : A) (b : B) → goes_on (null_f a) (last a) (last' b) ≡ true) →
-      IsReadBy terminal_of IsLexeme stage given (λ d. X d >>= f d) (λ input. and_then (p input) q) null' first' last'
-  read_join null' first' last' r rf apart nulls firsts firsts_f lasts lasts_x =
-      read_both_at null' first' last' r rf (λ s g d scope run end x sh. g) apart nulls firsts firsts_f lasts (λ d scope a end x. lasts_x a end.0)
+      ((a : A) → are_disjoint (last a) (first_f a) ≡ true) → ((b : B) → is_within (last_f b) (last' b) ≡ true) →
+      ((d : ℕ) (scope : Scope) (a : A) (end : B × Scope) → f d a scope [] end → goes_on (null_f a) (last a) (last' end.0) ≡ true) →
+      IsReadBy terminal_of IsLexeme stage given (λ d. X d >>= f d) (λ input. and_then (p input) q) no first last'
+  read_then_at {first = first} last' r rf apart lasts nulls =
+      read_both_at no first last' r rf (λ s g d scope run end x sh. g) apart (λ a. tt) (within_itself first) (λ a. refl) lasts nulls
+      (λ s g scope t h. inl h) (λ s g e. never e)
+
+  -- The first part is nullable, and its empty word leaves the scope as it is. Either each rest is
+  -- nullable or none is.
+  module _ {given A B : Type 0} {X : ℕ → Rule Token Scope A} {p : Reader Token Scope Around A} {first : List ℕ} {last : A → List ℕ}
+      {f : ℕ → A → Rule Token Scope B} {q : A → Reader Token Scope Around B} {null_f : Nullable} {first_f : List ℕ} {last_f : B → List ℕ}
+      (last' : B → List ℕ) (r : IsReadBy terminal_of IsLexeme stage given X p keeping first last)
+      (rf : (a : A) → IsReadBy terminal_of IsLexeme stage given (λ d. f d a) (q a) null_f first_f last_f) where
+    joins : (n : Nullable) → Joins keeping n n
+    joins no = tt
+    joins keeping = refl
+    joins changing = refl
+
+    begins_join : IsWhole stage → given → (scope : Scope) (t : Token) → has (first ++ first_f) (terminal_of scope t) ≡ true →
+        (has first (terminal_of scope t) ≡ true) ⊎ Ready (λ d. (X d >>= f d) scope) t
+    begins_join s g scope t h = elim (in_union first first_f (terminal_of scope t) h) [
+      | inl x ↦ inl x
+      | inr y ↦ let x = r.empty s g refl scope in
+          let same : x.value.1 ≡ scope = r.keeps x.turns (covers_all stage s x.turns) scope x.value x.is in
+          inr (ready_rest null_f (first ++ first_f) last' r rf s scope t x
+          ((rf x.value.0).ready s g x.value.1 t (subst (λ z. has first_f (terminal_of z t) ≡ true) (sym same) y)))
+    ]
+
+    empty_join : IsWhole stage → given → is_null null_f ≡ true → (scope : Scope) → Empty (λ d. (X d >>= f d) scope)
+    empty_join s g e scope =
+        let x = r.empty s g refl scope in empty_both null_f (first ++ first_f) last' r rf s scope x ((rf x.value.0).empty s g e x.value.1)
+
+    pub read_join : ((a : A) → are_disjoint (last a) first_f ≡ true) → ((b : B) → is_within (last_f b) (last' b) ≡ true) →
+        ((a : A) (b : B) → goes_on null_f (last a) (last' b) ≡ true) →
+        IsReadBy terminal_of IsLexeme stage given (λ d. X d >>= f d) (λ input. and_then (p input) q) null_f (first ++ first_f) last'
+    read_join apart lasts lasts_x =
+        read_both_at null_f (first ++ first_f) last' r rf (λ s g d scope run end x sh. g) apart (λ a. joins null_f) (within_left first first_f) (λ a. within_right first first_f) lasts
+        (λ d scope a end x. lasts_x a end.0) begins_join empty_join
 
   -- What is read is made of what was read.
   pub read_map : {given A B : Type 0} {X : ℕ → Rule Token Scope A} {p : Reader Token Scope Around A} {null : Nullable} {first : List ℕ} {last : A → List ℕ}
@@ -174,7 +274,12 @@ module _ {Token Scope Around : Type 0} {terminal_of : Scope → Token → ℕ} {
   read_map {null = null} {first = first} {last = last} g last' r lasts =
       read_both_at null first last' r (λ a. read_pure (g a)) (λ s h d scope run end x sh. h) (λ a. disjoint_from_none (last a)) (λ a. same null) (within_itself first)
       (λ a. nothing null) (λ b. refl)
-      (λ d scope a end x. subst (λ z. is_within (last a) (last' z) ≡ true) (sym (ap (λ (z : _). z.0) x.same)) (lasts a))
+      (λ d scope a end x. subst (λ z. is_within (last a) (last' z) ≡ true) (sym (ap (λ (z : _). z.0) x.same)) (lasts a)) (λ s h scope t k. inl k)
+      (λ s h e scope. let x = r.empty s h e scope in record {
+        value = (g x.value.0, x.value.1);
+        turns = x.turns;
+        is = record { front = []; back = []; value = x.value; split = refl; begin = x.is; rest = record { none = refl; same = refl } };
+      })
     where
       same : (n : Nullable) → Joins n keeping n
       same no = tt
@@ -193,7 +298,7 @@ module _ {Token Scope Around : Type 0} {terminal_of : Scope → Token → ℕ} {
         IsReadBy terminal_of IsLexeme stage given (λ d. one terminal_of set view level >>= f d) (λ input. and_then (expect terminal_of set view room input) q) no set last_f
     read_token rf =
         read_both_at no set last_f (read_one fits sample {given = given}) rf (λ s g d scope run end x sh. one_guard fits s scope run end x sh) (λ a. refl) (λ a. tt) (within_itself set)
-        (λ a. refl) (λ b. within_itself (last_f b)) (λ d scope a end x. none_goes_on (null_f a) (last_f end.0))
+        (λ a. refl) (λ b. within_itself (last_f b)) (λ d scope a end x. none_goes_on (null_f a) (last_f end.0)) (λ s g scope t h. inl h) (λ s g e. never e)
       where
         none_goes_on : (n : Nullable) (l : List ℕ) → goes_on n [] l ≡ true
         none_goes_on no l = refl

@@ -1,20 +1,20 @@
 -- Turns up to one that ends are read exactly.
 
-use Rattle.std.proofs.Common.{◌≡◌, ℕ, zero, suc, ◌≤◌, Bool, true, false, List, [], ◌∷◌, length, refl, sym, subst, append-nil, arith}
+use Rattle.std.proofs.Common.{◌∙◌, ◌≡◌, ℕ, zero, suc, ◌≤◌, Bool, true, false, List, [], ◌∷◌, length, refl, sym, subst, append-nil, arith, ap, ◌+◌, ◌++◌}
 use Rattle.reading.specs.declared.turn.Turn.{Turn}
 use Rattle.reading.specs.declared.turn.Turn.TheVariants.{Again, Done}
 use Rattle.reading.specs.Terminals.{has, are_disjoint}
-use Rattle.reading.specs.Languages.{Leveled, Language, sequence}
+use Rattle.reading.specs.Languages.{Leveled, Language, sequence, tokens_of}
 use Rattle.reading.specs.Rules.{Rule, after, repeat}
 use Rattle.reading.specs.Readers as reader
 use Rattle.reading.specs.Readers.{Reader, Input, Outcome, and_then, turn_on}
 use Rattle.reading.specs.Exact.{AreLexemes, IsExact, refuses}
 use Rattle.reading.proofs.Sets.{never, disjoint}
-use Rattle.reading.proofs.Cutting.{tokens_none}
-use Rattle.reading.proofs.Words.{Word, Some, word_of}
+use Rattle.reading.proofs.Cutting.{tokens_none, tokens_append}
+use Rattle.reading.proofs.Words.{Word, Some, Ready, word_of}
 use Rattle.reading.proofs.Predictive.{IsPredictive, predictive_empty, predictive_weaker, predictive_never}
 use Rattle.reading.proofs.PredictiveThen.{predictive_then}
-use Rattle.reading.proofs.ExactThen.{exact_then}
+use Rattle.reading.proofs.ExactThen.{exact_then, raised, raised_left}
 use Rattle.reading.proofs.ExactEither.{exact_same}
 use Rattle.reading.proofs.ReadBy.{Stage, Covers, IsWhole, covers_all, no, IsReadBy, read_pure}
 use Rattle.reading.proofs.ReadSteps.{fewer_left}
@@ -160,6 +160,25 @@ module _ {Token Scope Around : Type 0} {terminal_of : Scope → Token → ℕ} {
   turn_not_none : IsWhole stage → (d : ℕ) (s : T) (scope : Scope) (r : Turn T A × Scope) (run : List (Leveled Token)) → turn d s scope run r → run ≡ [] → ⊥
   turn_not_none h d s scope r run x e = never (((rs s).predictive d (covers_all stage h d) scope).nullable r (subst (λ z. turn d s scope z r) e x))
 
+  -- A first turn that begins with the token, and some rest.
+  ready_turns : IsWhole stage → given → (s : T) (scope : Scope) (t : Token) → First scope t ≡ true → Ready (λ d. sequence (turn d s scope) (Rest d)) t
+  ready_turns h g s scope t e =
+      let x = (rs s).ready h g scope t e in let y = some_rest x.value.0 x.value.1 in record {
+        word = x.word ++ y.word;
+        value = y.value;
+        turns = x.turns + y.turns;
+        rest = x.rest ++ tokens_of y.word;
+        begins = tokens_append x.word y.word ∙ ap (λ z. z ++ tokens_of y.word) x.begins;
+        is = record {
+          front = x.word;
+          back = y.word;
+          value = x.value;
+          split = refl;
+          begin = raised_left (λ d. turn d s scope) (λ d. ((rs s).predictive d (covers_all stage h d) scope).grows) x.turns y.turns x.word x.value x.is;
+          rest = raised (λ d. Rest d x.value) (λ d. (rest_predictive d d (all_predictive d d (covers_all stage h d)) x.value.0 x.value.1).grows) x.turns y.turns y.word y.value y.is;
+        };
+      }
+
   module _ (h : IsWhole stage) (g : given) (around : Around) where
     abbrev At : List Token → Scope → Input Token Scope Around
     At ts scope = record { tokens = ts; scope = scope; around = around }
@@ -190,4 +209,7 @@ module _ {Token Scope Around : Type 0} {terminal_of : Scope → Token → ℕ} {
     keeps = λ d h scope end x. tt;
     some = λ scope. some_turns s scope;
     exact = λ h g around scope ts. all_exact h g around (length ts) ts s scope (omega arith);
+    ready = λ h g scope t e. let w = ready_turns h g s scope t e in let m = turns_to h s scope w.turns w.word w.value w.is in
+        record { word = w.word; value = w.value; turns = m.0; rest = w.rest; begins = w.begins; is = m.1 };
+    empty = λ h g e scope. never e;
   }

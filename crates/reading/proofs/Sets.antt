@@ -1,6 +1,6 @@
 -- Sets of terminals that are compared by computing.
 
-use Rattle.std.proofs.Common.{◌≡◌, ℕ, Bool, true, false, not, ◌==◌, ◌||◌, ◌&&◌, List, [], ◌∷◌, ◌++◌, refl, sym, subst, eqb-true, eq-eqb}
+use Rattle.std.proofs.Common.{◌⊎◌, inl, inr, ◌≡◌, ℕ, Bool, true, false, not, ◌==◌, ◌||◌, ◌&&◌, List, [], ◌∷◌, ◌++◌, refl, sym, subst, eqb-true, eq-eqb}
 use Rattle.reading.specs.Terminals.{has, is_within, are_disjoint}
 
 -- A hypothesis that cannot be.
@@ -83,3 +83,12 @@ within_left (terminal ∷ set) other =
 pub within_right : (set other : List ℕ) → is_within other (set ++ other) ≡ true
 within_right [] other = within_itself other
 within_right (terminal ∷ set) other = within_more terminal other (set ++ other) (within_right set other)
+
+in_first_or : (a b c d : Bool) → (b ≡ true → (c ≡ true) ⊎ (d ≡ true)) → (a || b) ≡ true → ((a || c) ≡ true) ⊎ (d ≡ true)
+in_first_or true b c d later h = inl refl
+in_first_or false b c d later h = later h
+
+-- What is in a union is in one of its sets.
+pub in_union : (set other : List ℕ) (n : ℕ) → has (set ++ other) n ≡ true → (has set n ≡ true) ⊎ (has other n ≡ true)
+in_union [] other n h = inr h
+in_union (m ∷ set) other n h = in_first_or (m == n) (has (set ++ other) n) (has set n) (has other n) (in_union set other n) h

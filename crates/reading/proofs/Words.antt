@@ -20,6 +20,12 @@ pub record Some {Token A : Type 0} (IsLexeme : Token → Type 0) (X : Family Tok
   pub lexemes : AreLexemes IsLexeme word
   pub is : (more : ℕ) → turns ≤ more → X more word value
 
+-- That the empty word is one.
+pub record Empty {Token A : Type 0} (X : Family Token A) : Type 0 where
+  pub value : A
+  pub turns : ℕ
+  pub is : X turns [] value
+
 -- A word that begins with the token.
 pub record Ready {Token A : Type 0} (X : Family Token A) (token : Token) : Type 0 where
   pub word : List (Leveled Token)
