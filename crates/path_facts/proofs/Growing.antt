@@ -1,19 +1,22 @@
 -- Sets of pairs that grow.
-use Rattle.std.proofs.Common.{◌≡◌, ◌≢◌, ℕ, ◌<◌, ◌⊎◌, inl, inr, Bool, true, false, not, List, [], ◌∷◌, ◌++◌, map, length, get_or, refl, sym, ap, ◌∙◌, subst, append_assoc, cond}
+use Rattle.std.proofs.Common.{◌≡◌, ◌≢◌, ℕ, ◌<◌, ◌⊎◌, inl, inr, Bool, true, false, List, [], ◌∷◌, ◌++◌, map, length, get_or, refl, sym, ap, ◌∙◌, arith, subst, append_assoc, length-append, cond, None}
 use Rattle.std.specs.List.{All, Contains}
-use Rattle.std.specs.BTreeSet.{BTreeSet, insert_key}
+use Rattle.std.specs.BTreeSet.{insert_key}
 use Rattle.std.specs.BTreeSet as sorted
 use Rattle.std.specs.Ordering.{is_eq, nat_cmp, ordering_then}
 use Rattle.std.specs.Cmp.{IsTotalOrder}
 use Rattle.std.specs.declared.cmp.Ordering.{Ordering}
 use Rattle.std.proofs.lemmas.Cmp.{nat_cmp_total, on_total, then_total}
-use Rattle.std.proofs.lemmas.List.{append-nil, map-append, get_or_append_left}
-use Rattle.std.proofs.lemmas.List.Elements.{All-append, All-weaker, All-nil, All-cons, All-push, All-contains, Contains-append_left, Contains-push, Contains-push_cases, Contains-get_or}
+use Rattle.std.proofs.Math.Seq.{get_or-append_seam}
+use Rattle.std.proofs.lemmas.Bool.{cases_lt}
+use Rattle.std.proofs.lemmas.List.{append-nil, map-append, length-map, get_or-map, get_or_default, get_or_append_left}
+use Rattle.std.proofs.lemmas.List.Elements.{All-append, All-weaker, All-nil, All-cons, All-push, All-contains, Contains-append_left, Contains-push, Contains-get_or}
 use Rattle.std.proofs.lemmas.List.Quantifiers.{all_pairs_push}
 use Rattle.std.proofs.lemmas.Map.Lookups.{exact_pairs, exact_unsigned, CmpEqualImpliesEq}
 use Rattle.std.proofs.lemmas.Map.Views.{All-insert_key, btree_set_contains_iff}
+use Rattle.flow_index.specs.Places.{IsLast, IsLastPlace}
 use Rattle.path_facts.specs.declared.pair_set.PairSet.{PairSet}
-use Rattle.path_facts.specs.PairSets.{Grows, IsKept, Meets}
+use Rattle.path_facts.specs.PairSets.{Grows, IsKept, Meets, pair_at}
 
 abbrev pub pair_cmp : ℕ × ℕ → ℕ × ℕ → Ordering
 pair_cmp x y = ordering_then (nat_cmp x.0 y.0) (nat_cmp x.1 y.1)
@@ -52,77 +55,133 @@ grows_all IsSo P a b so grows all =
 pub grows_at : (IsSo : ℕ × ℕ → Type 0) (a b : PairSet) (place : ℕ) (d : ℕ × ℕ) → Grows IsSo a b → place < length a.pairs.items → get_or b.pairs.items place d ≡ get_or a.pairs.items place d
 grows_at IsSo a b place d grows within = ap (λ (xs : List (ℕ × ℕ)). get_or xs place d) grows.grown ∙ get_or_append_left a.pairs.items grows.more d place within
 
-module _ (set : PairSet) (pair : ℕ × ℕ) (kept : IsKept set) where
-  has_known : sorted.contains pair_cmp set.known pair ≡ true → Contains set.pairs.items pair
-  has_known on = (kept.known pair).0 ((btree_set_contains_iff pair_total pair_exact set.known pair).0 on)
+-- the pairs of a set that begin with a number
+module _ (set : PairSet) (first : ℕ) (kept : IsKept set) where
+  len_keys : length set.by_first.keys ≡ length set.pairs.items
+  len_keys = ap length kept.keys ∙ length-map set.pairs.items (λ (p : ℕ × ℕ). p.0)
 
-  known_all : (after : BTreeSet (ℕ × ℕ)) (items : List (ℕ × ℕ)) → after.keys ≡ insert_key pair_cmp set.known.keys pair → sorted.Updates pair_cmp set.known after pair true →
-      ((q : ℕ × ℕ) → Contains set.pairs.items q → Contains items q) → Contains items pair → ((q : ℕ × ℕ) → Contains items q → (Contains set.pairs.items q) ⊎ (pair ≡ q)) →
-      (q : ℕ × ℕ) → (Contains after.keys q → Contains items q) × (Contains items q → Contains after.keys q)
-  known_all after items keys updates keeps has back q = (
-    λ at. All-contains (Contains items) after.keys q
-        (subst (λ (ks : List (ℕ × ℕ)). All (Contains items) ks) (sym keys)
-        (All-insert_key pair_cmp pair (Contains items) set.known.keys (λ k d inside. keeps _ ((kept.known _).0 (Contains-get_or set.known.keys k d inside))) has)) at,
-    λ at. (btree_set_contains_iff pair_total pair_exact after q).0 (elim (back q at) [
-      | inl old ↦ updates.0 q ∙ either (is_eq (pair_cmp pair q)) (sorted.contains pair_cmp set.known q) ((btree_set_contains_iff pair_total pair_exact set.known q).1 ((kept.known q).1 old))
-      | inr same ↦ subst (λ (p : ℕ × ℕ). sorted.contains pair_cmp after p ≡ true) same updates.1
-    ]),
+  key_is : (position : ℕ) → position < length set.pairs.items → get_or set.by_first.keys position 0 ≡ (pair_at set position).0
+  key_is position within = ap (λ (ks : List ℕ). get_or ks position 0) kept.keys ∙ get_or-map (λ (p : ℕ × ℕ). p.0) set.pairs.items position (0, 0) 0 within
+
+  module _ (position : ℕ) (last : IsLast set.by_first.keys first (length set.by_first.keys) position) where
+    pub last_within : position < length set.pairs.items
+    last_within = let before = last.before in omega (arith, len_keys)
+
+    pub last_first : (pair_at set position).0 ≡ first
+    last_first = sym (key_is position last_within) ∙ last.stands
+
+    -- such a pair is the last one, or was passed
+    before_last : (k : ℕ) → k < length set.pairs.items → (pair_at set k).0 ≡ first → (k ≡ position) ⊎ Contains set.passed.keys (pair_at set k)
+    before_last k within same = elim (cases_lt k position) [
+      | inl before ↦ inr (kept.passed k position before last_within (same ∙ sym last_first))
+      | inr not_before ↦ elim (cases_lt position k) [
+        | inl behind ↦ absurd (last.last k behind (omega (arith, len_keys)) (key_is k within ∙ same))
+        | inr not_behind ↦ inl (omega arith)
+      ]
+    ]
+
+module _ (set : PairSet) (pair : ℕ × ℕ) (kept : IsKept set) where
+  abbrev IsPassed : Type 0
+  IsPassed = sorted.contains pair_cmp set.passed pair ≡ true
+
+  stands_passed : IsPassed → Contains set.pairs.items pair
+  stands_passed on = All-contains (Contains set.pairs.items) set.passed.keys pair kept.passed_stand ((btree_set_contains_iff pair_total pair_exact set.passed pair).0 on)
+
+  -- where a pair stands
+  at_pair : (has : Contains set.pairs.items pair) → pair_at set has.0 ≡ pair
+  at_pair has = get_or_default set.pairs.items has.0 (0, 0) pair has.1 ∙ has.2
+
+  -- the last pair is this one
+  pub has_last : (position : ℕ) (d : ℕ × ℕ) → IsLast set.by_first.keys pair.0 (length set.by_first.keys) position → (get_or set.pairs.items position d).1 ≡ pair.1 → Contains set.pairs.items pair
+  has_last position d last same =
+      let within = last_within set pair.0 kept position last in
+      let second : (pair_at set position).1 ≡ pair.1 = ap (λ (p : ℕ × ℕ). p.1) (get_or_default set.pairs.items position (0, 0) d within) ∙ same in
+      let is : pair_at set position ≡ pair = ap (λ (x : ℕ). (x, (pair_at set position).1)) (last_first set pair.0 kept position last) ∙ ap (λ (x : ℕ). (pair.0, x)) second in
+      subst (λ (p : ℕ × ℕ). Contains set.pairs.items p) is (Contains-get_or set.pairs.items position (0, 0) within)
+
+  -- it is not
+  pub has_passed : (position : ℕ) (d : ℕ × ℕ) (on : Bool) → IsLast set.by_first.keys pair.0 (length set.by_first.keys) position → ¬ ((get_or set.pairs.items position d).1 ≡ pair.1) → on ≡ sorted.contains pair_cmp set.passed pair →
+      (on ≡ true → Contains set.pairs.items pair) × (Contains set.pairs.items pair → on ≡ true)
+  has_passed position d on last differs is = (
+    λ so. stands_passed (sym is ∙ so),
+    λ has. elim (before_last set pair.0 kept position last has.0 has.1 (ap (λ (p : ℕ × ℕ). p.0) (at_pair has))) [
+      | inl here ↦
+          let within = last_within set pair.0 kept position last in
+          let found : pair_at set position ≡ pair = ap (λ (k : ℕ). pair_at set k) (sym here) ∙ at_pair has in
+          absurd (differs (ap (λ (p : ℕ × ℕ). p.1) (get_or_default set.pairs.items position d (0, 0) within ∙ found)))
+      | inr passed ↦ is ∙ (btree_set_contains_iff pair_total pair_exact set.passed pair).1 (subst (λ (p : ℕ × ℕ). Contains set.passed.keys p) (at_pair has) passed)
+    ],
   )
-    where
-      either : (b old : Bool) → old ≡ true → cond b true old ≡ true
-      either true old is = refl
-      either false old is = is
+
+  -- no pair begins so
+  pub has_none : IsLastPlace set.by_first.keys pair.0 (length set.by_first.keys) None → ¬ Contains set.pairs.items pair
+  has_none none has = none has.0 (let within = has.1 in omega (arith, len_keys set pair.0 kept)) (key_is set pair.0 kept has.0 has.1 ∙ ap (λ (p : ℕ × ℕ). p.0) (at_pair has))
 
   -- a pair that was met before
-  pub meets_known : (after : PairSet) (added : Bool) → added ≡ false → added ≡ not (sorted.contains pair_cmp set.known pair) → after.known.keys ≡ insert_key pair_cmp set.known.keys pair →
-      sorted.Updates pair_cmp set.known after.known pair true → after.pairs.items ≡ set.pairs.items → after.by_first.count ≡ set.by_first.count → after.by_first.keys ≡ set.by_first.keys → Meets set after pair
-  meets_known after added off is keys updates items count chained =
-      let on : sorted.contains pair_cmp set.known pair ≡ true = by (sorted.contains pair_cmp set.known pair) (sym is ∙ off) in
-      let has = has_known on in
-      record {
-        grows = record {
-          kept = record {
-            known = λ q. known_all after.known after.pairs.items keys updates (λ p old. rw items old) (rw items has) (λ p old. inl (rw (← items) old)) q;
-            once = rw items kept.once;
-            below = rw (items, count) kept.below;
-            keys = chained ∙ (kept.keys ∙ ap (λ (xs : List (ℕ × ℕ)). map (λ p. p.0) xs) (sym items));
-          };
-          count = count;
-          more = [];
-          grown = items ∙ sym (append-nil set.pairs.items);
-          new = All-nil (λ new. new ≡ pair);
-        };
-        met = rw items has;
-      }
-    where
-      by : (b : Bool) → not b ≡ false → b ≡ true
-      by true is = refl
-      by false is = cc
+  pub meets_known : Contains set.pairs.items pair → Meets set set pair
+  meets_known has = record { grows = grows_none (λ new. new ≡ pair) set kept; met = has }
 
   -- a pair that is new
-  pub meets_push : (after : PairSet) (added : Bool) → added ≡ true → added ≡ not (sorted.contains pair_cmp set.known pair) → after.known.keys ≡ insert_key pair_cmp set.known.keys pair →
-      sorted.Updates pair_cmp set.known after.known pair true → after.pairs.items ≡ set.pairs.items ++ pair ∷ [] → pair.0 < set.by_first.count → after.by_first.count ≡ set.by_first.count → after.by_first.keys ≡ set.by_first.keys ++ pair.0 ∷ [] → Meets set after pair
-  meets_push after added on is keys updates items below count chained =
-      let met : Contains (set.pairs.items ++ pair ∷ []) pair = Contains-push set.pairs.items pair in
-      let fresh : ¬ Contains set.pairs.items pair = λ has. by (sorted.contains pair_cmp set.known pair) (sym is ∙ on) ((btree_set_contains_iff pair_total pair_exact set.known pair).1 ((kept.known pair).1 has)) in
-      record {
-        grows = record {
-          kept = record {
-            known = λ q. known_all after.known after.pairs.items keys updates (λ p old. rw items (Contains-append_left set.pairs.items (pair ∷ []) p old)) (rw items met)
-                (λ p at. Contains-push_cases set.pairs.items pair p (rw items at at)) q;
-            once = rw items (all_pairs_push (λ a b. a ≢ b) set.pairs.items pair kept.once
-                (λ k d inside same. fresh (subst (λ (p : ℕ × ℕ). Contains set.pairs.items p) same (Contains-get_or set.pairs.items k d inside))));
-            below = rw (items, count) (All-push (λ p. p.0 < set.by_first.count) set.pairs.items pair kept.below below);
-            keys = chained ∙ (ap (λ ks. ks ++ pair.0 ∷ []) kept.keys ∙ (sym (map-append (λ (p : ℕ × ℕ). p.0) set.pairs.items (pair ∷ [])) ∙ ap (λ (xs : List (ℕ × ℕ)). map (λ p. p.0) xs) (sym items)));
-          };
-          count = count;
-          more = pair ∷ [];
-          grown = items;
-          new = All-cons (λ new. new ≡ pair) pair [] refl (All-nil (λ new. new ≡ pair));
+  module _ (after : PairSet) (fresh : ¬ Contains set.pairs.items pair) (items : after.pairs.items ≡ set.pairs.items ++ pair ∷ []) (below : pair.0 < set.by_first.count) (count : after.by_first.count ≡ set.by_first.count)
+      (chained : after.by_first.keys ≡ set.by_first.keys ++ pair.0 ∷ []) where
+    at_old : (k : ℕ) → k < length set.pairs.items → pair_at after k ≡ pair_at set k
+    at_old k within = ap (λ (xs : List (ℕ × ℕ)). get_or xs k (0, 0)) items ∙ get_or_append_left set.pairs.items (pair ∷ []) (0, 0) k within
+
+    at_new : pair_at after (length set.pairs.items) ≡ pair
+    at_new = ap (λ (xs : List (ℕ × ℕ)). get_or xs (length set.pairs.items) (0, 0)) items ∙ get_or-append_seam set.pairs.items pair [] (0, 0)
+
+    meets_push : All (Contains set.pairs.items) after.passed.keys → ((q : ℕ × ℕ) → Contains set.passed.keys q → Contains after.passed.keys q) →
+        ((k : ℕ) → k < length set.pairs.items → (pair_at set k).0 ≡ pair.0 → Contains after.passed.keys (pair_at set k)) → Meets set after pair
+    meets_push stand old own = record {
+      grows = record {
+        kept = record {
+          passed_stand = All-weaker (Contains set.pairs.items) (Contains after.pairs.items) (λ q has. rw items (Contains-append_left set.pairs.items (pair ∷ []) q has)) after.passed.keys stand;
+          passed = λ k later before within same. elim (cases_lt later (length set.pairs.items)) [
+            | inl inside ↦
+                let k_inside : k < length set.pairs.items = omega arith in
+                subst (λ (p : ℕ × ℕ). Contains after.passed.keys p) (sym (at_old k k_inside))
+                (old _ (kept.passed k later before inside (ap (λ (p : ℕ × ℕ). p.0) (sym (at_old k k_inside)) ∙ (same ∙ ap (λ (p : ℕ × ℕ). p.0) (at_old later inside)))))
+            | inr not_inside ↦
+                let end : later ≡ length set.pairs.items = omega (arith, ap length items, length-append set.pairs.items (pair ∷ [])) in
+                let k_inside : k < length set.pairs.items = omega arith in
+                let new : pair_at after later ≡ pair = ap (λ (i : ℕ). pair_at after i) end ∙ at_new in
+                subst (λ (p : ℕ × ℕ). Contains after.passed.keys p) (sym (at_old k k_inside))
+                (own k k_inside (ap (λ (p : ℕ × ℕ). p.0) (sym (at_old k k_inside)) ∙ (same ∙ ap (λ (p : ℕ × ℕ). p.0) new)))
+          ];
+          once = rw items (all_pairs_push (λ a b. a ≢ b) set.pairs.items pair kept.once
+              (λ k d inside same. fresh (subst (λ (p : ℕ × ℕ). Contains set.pairs.items p) same (Contains-get_or set.pairs.items k d inside))));
+          below = rw (items, count) (All-push (λ p. p.0 < set.by_first.count) set.pairs.items pair kept.below below);
+          keys = chained ∙ (ap (λ ks. ks ++ pair.0 ∷ []) kept.keys ∙ (sym (map-append (λ (p : ℕ × ℕ). p.0) set.pairs.items (pair ∷ [])) ∙ ap (λ (xs : List (ℕ × ℕ)). map (λ p. p.0) xs) (sym items)));
         };
-        met = rw items met;
-      }
-    where
-      by : (b : Bool) → not b ≡ true → b ≡ true → ⊥
-      by true isnt is_so = cc
-      by false isnt is_so = cc
+        count = count;
+        more = pair ∷ [];
+        grown = items;
+        new = All-cons (λ new. new ≡ pair) pair [] refl (All-nil (λ new. new ≡ pair));
+      };
+      met = rw items (Contains-push set.pairs.items pair);
+    }
+
+    -- the first that begins so
+    pub meets_first : after.passed ≡ set.passed → IsLastPlace set.by_first.keys pair.0 (length set.by_first.keys) None → Meets set after pair
+    meets_first same none = meets_push (rw same kept.passed_stand) (λ q has. rw same has)
+        (λ k within begins. absurd (none k (omega (arith, len_keys set pair.0 kept)) (key_is set pair.0 kept k within ∙ begins)))
+
+    -- one behind others, of which the last is passed
+    pub meets_further : (position : ℕ) (last : ℕ × ℕ) → last ≡ get_or set.pairs.items position last → IsLast set.by_first.keys pair.0 (length set.by_first.keys) position →
+        after.passed.keys ≡ insert_key pair_cmp set.passed.keys last → sorted.Updates pair_cmp set.passed after.passed last true → Meets set after pair
+    meets_further position last read is keys updates =
+        let within = last_within set pair.0 kept position is in
+        let own : last ≡ pair_at set position = read ∙ get_or_default set.pairs.items position last (0, 0) within in
+        let stands : Contains set.pairs.items last = subst (λ (p : ℕ × ℕ). Contains set.pairs.items p) (sym own) (Contains-get_or set.pairs.items position (0, 0) within) in
+        meets_push (subst (λ (ks : List (ℕ × ℕ)). All (Contains set.pairs.items) ks) (sym keys) (All-insert_key pair_cmp last (Contains set.pairs.items) set.passed.keys kept.passed_stand stands)) old
+        (λ k inside begins. elim (before_last set pair.0 kept position is k inside begins) [
+          | inl here ↦ (btree_set_contains_iff pair_total pair_exact after.passed _).0 (subst (λ (p : ℕ × ℕ). sorted.contains pair_cmp after.passed p ≡ true) (own ∙ ap (λ (i : ℕ). pair_at set i) (sym here)) updates.1)
+          | inr passed ↦ old _ passed
+        ])
+      where
+        either : (b old : Bool) → old ≡ true → cond b true old ≡ true
+        either true old is_so = refl
+        either false old is_so = is_so
+
+        old : (q : ℕ × ℕ) → Contains set.passed.keys q → Contains after.passed.keys q
+        old q has = (btree_set_contains_iff pair_total pair_exact after.passed q).0 (updates.0 q ∙ either (is_eq (pair_cmp last q)) (sorted.contains pair_cmp set.passed q) ((btree_set_contains_iff pair_total pair_exact set.passed q).1 has))

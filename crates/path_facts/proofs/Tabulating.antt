@@ -14,16 +14,16 @@ use Rattle.matched_paths.specs.Matched as m
 use Rattle.matched_paths.specs.Matched.{Matched}
 use Rattle.flow_index.specs.Ways.{AddsAll, BridgesOver}
 use Rattle.path_facts.specs.declared.pair_set.PairSet.{PairSet}
-use Rattle.path_facts.specs.PairSets.{Grows, IsKept, Meets}
-use Rattle.path_facts.specs.Facts.{HasGoal, Spreads, Tabulates, fact_at}
+use Rattle.path_facts.specs.PairSets.{Grows, IsKept, Meets, pair_at}
+use Rattle.path_facts.specs.Facts.{HasGoal, Spreads, Tabulates}
 use Rattle.path_facts.proofs.Growing.{grows_all, grows_at, grows_keeps, grows_map, grows_none, grows_then}
 
 -- the fact at a place, and where it stands
-pub fact_stands : (facts : PairSet) (place : ℕ) → place < length facts.pairs.items → Contains facts.pairs.items ((fact_at facts place).0, (fact_at facts place).1)
+pub fact_stands : (facts : PairSet) (place : ℕ) → place < length facts.pairs.items → Contains facts.pairs.items ((pair_at facts place).0, (pair_at facts place).1)
 fact_stands facts place within = Contains-get_or facts.pairs.items place (0, 0) within
 
 -- the place of a fact
-pub at_fact : (facts : PairSet) (fact : ℕ × ℕ) (has : Contains facts.pairs.items fact) → fact_at facts has.0 ≡ fact
+pub at_fact : (facts : PairSet) (fact : ℕ × ℕ) (has : Contains facts.pairs.items fact) → pair_at facts has.0 ≡ fact
 at_fact facts fact has = get_or_default facts.pairs.items has.0 (0, 0) fact has.1 ∙ has.2
 
 -- a fact that was read is of a vertex below the count
@@ -60,7 +60,7 @@ module _ (flow : FlowGraph) where
   pub tabulates_grows : (IsSo : ℕ × ℕ → Type 0) (facts after bridges : PairSet) (followed spanned : ℕ) → ((fact : ℕ × ℕ) → IsSo fact → Matched flow fact.1 fact.0) → Grows IsSo facts after →
       Tabulates flow facts bridges followed spanned → Tabulates flow after bridges followed spanned
   tabulates_grows IsSo facts after bridges followed spanned so grows is =
-      let at : (k : ℕ) → k < followed → fact_at after k ≡ fact_at facts k = λ k less. grows_at IsSo facts after k (0, 0) grows (omega (arith, is.within)) in
+      let at : (k : ℕ) → k < followed → pair_at after k ≡ pair_at facts k = λ k less. grows_at IsSo facts after k (0, 0) grows (omega (arith, is.within)) in
       record {
         facts_kept = grows.kept;
         bridges_kept = is.bridges_kept;
@@ -80,8 +80,8 @@ module _ (flow : FlowGraph) where
 
   -- one fact more was followed
   pub tabulates_followed : (facts bridges : PairSet) (place : ℕ) (spanned : ℕ) → place < length facts.pairs.items →
-      ((to : ℕ) → HasFlat flow (fact_at facts place).0 to → Contains facts.pairs.items (to, (fact_at facts place).1)) →
-      ((to : ℕ) → Contains bridges.pairs.items ((fact_at facts place).0, to) → Contains facts.pairs.items (to, (fact_at facts place).1)) →
+      ((to : ℕ) → HasFlat flow (pair_at facts place).0 to → Contains facts.pairs.items (to, (pair_at facts place).1)) →
+      ((to : ℕ) → Contains bridges.pairs.items ((pair_at facts place).0, to) → Contains facts.pairs.items (to, (pair_at facts place).1)) →
       Tabulates flow facts bridges place spanned → Tabulates flow facts bridges (place + 1) spanned
   tabulates_followed facts bridges place spanned within flat bridged is = record {
     facts_kept = is.facts_kept;
@@ -97,19 +97,19 @@ module _ (flow : FlowGraph) where
       | inl before ↦ is.flat k to before edge
       | inr not_before ↦
           let here : place ≡ k = omega arith in
-          subst (λ (p : ℕ). Contains facts.pairs.items (to, (fact_at facts p).1)) here (flat to (subst (λ (p : ℕ). HasFlat flow (fact_at facts p).0 to) (sym here) edge))
+          subst (λ (p : ℕ). Contains facts.pairs.items (to, (pair_at facts p).1)) here (flat to (subst (λ (p : ℕ). HasFlat flow (pair_at facts p).0 to) (sym here) edge))
     ];
     bridged = λ k to less way. elim (cases_lt k place) [
       | inl before ↦ is.bridged k to before way
       | inr not_before ↦
           let here : place ≡ k = omega arith in
-          subst (λ (p : ℕ). Contains facts.pairs.items (to, (fact_at facts p).1)) here (bridged to (subst (λ (p : ℕ). Contains bridges.pairs.items ((fact_at facts p).0, to)) (sym here) way))
+          subst (λ (p : ℕ). Contains facts.pairs.items (to, (pair_at facts p).1)) here (bridged to (subst (λ (p : ℕ). Contains bridges.pairs.items ((pair_at facts p).0, to)) (sym here) way))
     ];
     spans = is.spans;
   }
 
   -- over the pair of one fact more all bridges stand
-  pub tabulates_spanned : (facts bridges : PairSet) (followed place : ℕ) → place < followed → ((way : ℕ × ℕ) → BridgesOver flow (pair_of (fact_at facts place)) way → Contains bridges.pairs.items way) →
+  pub tabulates_spanned : (facts bridges : PairSet) (followed place : ℕ) → place < followed → ((way : ℕ × ℕ) → BridgesOver flow (pair_of (pair_at facts place)) way → Contains bridges.pairs.items way) →
       Tabulates flow facts bridges followed place → Tabulates flow facts bridges followed (place + 1)
   tabulates_spanned facts bridges followed place below all is = record {
     facts_kept = is.facts_kept;
@@ -127,7 +127,7 @@ module _ (flow : FlowGraph) where
       | inl before ↦ is.spans k way before over
       | inr not_before ↦
           let here : k ≡ place = omega arith in
-          all way (subst (λ (p : ℕ). BridgesOver flow (pair_of (fact_at facts p)) way) here over)
+          all way (subst (λ (p : ℕ). BridgesOver flow (pair_of (pair_at facts p)) way) here over)
     ];
   }
 
@@ -148,21 +148,21 @@ module _ (flow : FlowGraph) where
         within = grown.within;
         behind = grown.behind;
         flat = grown.flat;
-        bridged = λ k to less has. elim (Contains-append_cases bridges.pairs.items meets.grows.more _ (subst (λ (xs : List (ℕ × ℕ)). Contains xs ((fact_at after k).0, to)) meets.grows.grown has)) [
+        bridged = λ k to less has. elim (Contains-append_cases bridges.pairs.items meets.grows.more _ (subst (λ (xs : List (ℕ × ℕ)). Contains xs ((pair_at after k).0, to)) meets.grows.grown has)) [
           | inl old ↦ grown.bridged k to less old
           | inr new ↦
-              let same : ((fact_at after k).0, to) ≡ (a, b) = All-contains (λ w. w ≡ (a, b)) meets.grows.more _ meets.grows.new new in
+              let same : ((pair_at after k).0, to) ≡ (a, b) = All-contains (λ w. w ≡ (a, b)) meets.grows.more _ meets.grows.new new in
               let inside : k < length facts.pairs.items = omega (arith, is.within) in
-              let at : fact_at after k ≡ fact_at facts k = grows_at _ facts after k (0, 0) spreads.grows inside in
-              let stands : Contains facts.pairs.items (a, (fact_at after k).1) =
-              subst (λ (v : ℕ). Contains facts.pairs.items (v, (fact_at after k).1)) (ap (λ (w : ℕ × ℕ). w.0) same) (subst (λ (f : ℕ × ℕ). Contains facts.pairs.items (f.0, f.1)) (sym at) (fact_stands facts k inside)) in
-              subst (λ (v : ℕ). Contains after.pairs.items (v, (fact_at after k).1)) (sym (ap (λ (w : ℕ × ℕ). w.1) same)) (spreads.all (fact_at after k).1 stands)
+              let at : pair_at after k ≡ pair_at facts k = grows_at _ facts after k (0, 0) spreads.grows inside in
+              let stands : Contains facts.pairs.items (a, (pair_at after k).1) =
+              subst (λ (v : ℕ). Contains facts.pairs.items (v, (pair_at after k).1)) (ap (λ (w : ℕ × ℕ). w.0) same) (subst (λ (f : ℕ × ℕ). Contains facts.pairs.items (f.0, f.1)) (sym at) (fact_stands facts k inside)) in
+              subst (λ (v : ℕ). Contains after.pairs.items (v, (pair_at after k).1)) (sym (ap (λ (w : ℕ × ℕ). w.1) same)) (spreads.all (pair_at after k).1 stands)
         ];
         spans = λ k w less over. grows_keeps _ bridges wider w meets.grows (grown.spans k w less over);
       }
 
   -- a bridge over the pair of a fact is a matched path between vertices
-  pub over_matched : (facts : PairSet) (place : ℕ) (way : ℕ × ℕ) → place < length facts.pairs.items → All (λ fact. Matched flow fact.1 fact.0) facts.pairs.items → BridgesOver flow (pair_of (fact_at facts place)) way → Matched flow way.0 way.1
+  pub over_matched : (facts : PairSet) (place : ℕ) (way : ℕ × ℕ) → place < length facts.pairs.items → All (λ fact. Matched flow fact.1 fact.0) facts.pairs.items → BridgesOver flow (pair_of (pair_at facts place)) way → Matched flow way.0 way.1
   over_matched facts place way within matched over = m.call over.opened (All-get_or (λ (fact : ℕ × ℕ). Matched flow fact.1 fact.0) facts.pairs.items place (0, 0) within matched) over.closed
 
   pub over_among : (pair : Pair) (way : ℕ × ℕ) → IsWithin flow → BridgesOver flow pair way → (way.0 < flow.vertices) × (way.1 < flow.vertices)
@@ -177,13 +177,13 @@ module _ (flow : FlowGraph) where
 
   -- The ways are the bridges over the pair of a fact.
   pub record AreOver (facts : PairSet) (place : ℕ) (ways : List (ℕ × ℕ)) : Type 0 where
-    pub over : All (BridgesOver flow (pair_of (fact_at facts place))) ways
-    pub all : (way : ℕ × ℕ) → BridgesOver flow (pair_of (fact_at facts place)) way → Contains ways way
+    pub over : All (BridgesOver flow (pair_of (pair_at facts place))) ways
+    pub all : (way : ℕ × ℕ) → BridgesOver flow (pair_of (pair_at facts place)) way → Contains ways way
 
   pub are_over : (facts : PairSet) (place : ℕ) (fact : ℕ × ℕ) (before after ways : List (ℕ × ℕ)) → place < length facts.pairs.items → fact ≡ get_or facts.pairs.items place fact → before ≡ [] → ways ≡ after →
       AddsAll (BridgesOver flow (pair_of fact)) before after → AreOver facts place ways
   are_over facts place fact before after ways inside read empty same adds =
-      let own : fact ≡ fact_at facts place = read ∙ get_or_default facts.pairs.items place fact (0, 0) inside in
+      let own : fact ≡ pair_at facts place = read ∙ get_or_default facts.pairs.items place fact (0, 0) inside in
       let over : All (BridgesOver flow (pair_of fact)) ways =
       subst (λ (xs : List (ℕ × ℕ)). All (BridgesOver flow (pair_of fact)) xs) (sym (same ∙ adds.kept)) (All-append (BridgesOver flow (pair_of fact)) before adds.more (rw empty (All-nil (BridgesOver flow (pair_of fact)))) adds.new) in
       record {
@@ -193,14 +193,14 @@ module _ (flow : FlowGraph) where
 
   -- a bridge of the ways ends at vertices
   pub over_below : (facts : PairSet) (place : ℕ) (ways : List (ℕ × ℕ)) (index : ℕ) → IsWithin flow → index < length ways → AreOver facts place ways → ((get_or ways index (0, 0)).0 < flow.vertices) × ((get_or ways index (0, 0)).1 < flow.vertices)
-  over_below facts place ways index within below are = over_among _ (get_or ways index (0, 0)) within (All-get_or (BridgesOver flow (pair_of (fact_at facts place))) ways index (0, 0) below are.over)
+  over_below facts place ways index within below are = over_among _ (get_or ways index (0, 0)) within (All-get_or (BridgesOver flow (pair_of (pair_at facts place))) ways index (0, 0) below are.over)
 
   -- a fact was followed along flat edges and bridges
   module _ (facts middle after bridges : PairSet) (place : ℕ) (fact : ℕ × ℕ) (edges ways : List (ℕ × ℕ)) (is : Tabulates flow facts bridges place place) (inside : place < length facts.pairs.items) (read : fact ≡ get_or facts.pairs.items place fact)
       (are_edges : edges ≡ flow.flat) (are_ways : ways ≡ bridges.pairs.items)
       (first : Grows (λ f. Contains edges (fact.0, f.0) × (f.1 ≡ fact.1)) facts middle) (first_all : (to : ℕ) → Contains edges (fact.0, to) → Contains middle.pairs.items (to, fact.1))
       (second : Grows (λ f. Contains ways (fact.0, f.0) × (f.1 ≡ fact.1)) middle after) (second_all : (to : ℕ) → Contains ways (fact.0, to) → Contains after.pairs.items (to, fact.1)) where
-    own : fact_at facts place ≡ fact
+    own : pair_at facts place ≡ fact
     own = sym (read ∙ get_or_default facts.pairs.items place fact (0, 0) inside)
 
     stands : Contains facts.pairs.items (fact.0, fact.1)
@@ -220,7 +220,7 @@ module _ (flow : FlowGraph) where
     pub followed_inside : place < length after.pairs.items
     followed_inside = omega (arith, ap length first.grown, ap length second.grown, length-append facts.pairs.items first.more, length-append middle.pairs.items second.more)
 
-    pub followed_at : fact_at after place ≡ fact
+    pub followed_at : pair_at after place ≡ fact
     followed_at = grows_at _ middle after place (0, 0) second (omega (arith, ap length first.grown, length-append facts.pairs.items first.more)) ∙ (grows_at _ facts middle place (0, 0) first inside ∙ own)
 
     pub followed_is : Tabulates flow after bridges (place + 1) place
@@ -254,12 +254,12 @@ module _ (flow : FlowGraph) where
   cross_none facts bridges place ways is = record { tabulates = is; grows = grows_none _ facts is.facts_kept; added = λ k less inside. absurd (omega arith) }
 
   pub cross_more : (start facts after bridges wider : PairSet) (place : ℕ) (ways : List (ℕ × ℕ)) (index : ℕ) (d : ℕ × ℕ) → IsWithin flow → place < length start.pairs.items → index < length ways →
-      All (BridgesOver flow (pair_of (fact_at start place))) ways → Meets bridges wider ((get_or ways index d).0, (get_or ways index d).1) → Spreads (get_or ways index d).0 (get_or ways index d).1 facts after →
+      All (BridgesOver flow (pair_of (pair_at start place))) ways → Meets bridges wider ((get_or ways index d).0, (get_or ways index d).1) → Spreads (get_or ways index d).0 (get_or ways index d).1 facts after →
       Crossing start place ways facts bridges index → Crossing start place ways after wider (index + 1)
   cross_more start facts after bridges wider place ways index d within inside below over meets spreads is =
       let way = get_or ways index d in
-      let same : fact_at facts place ≡ fact_at start place = grows_at _ start facts place (0, 0) is.grows inside in
-      let here : BridgesOver flow (pair_of (fact_at facts place)) way = subst (λ (f : ℕ × ℕ). BridgesOver flow (pair_of f) way) (sym same) (All-get_or (BridgesOver flow (pair_of (fact_at start place))) ways index d below over) in
+      let same : pair_at facts place ≡ pair_at start place = grows_at _ start facts place (0, 0) is.grows inside in
+      let here : BridgesOver flow (pair_of (pair_at facts place)) way = subst (λ (f : ℕ × ℕ). BridgesOver flow (pair_of f) way) (sym same) (All-get_or (BridgesOver flow (pair_of (pair_at start place))) ways index d below over) in
       let stays : place < length facts.pairs.items = omega (arith, ap length is.grows.grown, length-append start.pairs.items is.grows.more) in
       record {
         tabulates = tabulates_bridge facts after bridges wider way.0 way.1 (place + 1) place (over_matched facts place way stays is.tabulates.matched here) (over_among _ way within here) meets spreads is.tabulates;
@@ -273,9 +273,9 @@ module _ (flow : FlowGraph) where
       }
 
   pub cross_end : (start facts bridges : PairSet) (place : ℕ) (ways : List (ℕ × ℕ)) (index : ℕ) → place < length start.pairs.items → length ways ≤ index →
-      ((way : ℕ × ℕ) → BridgesOver flow (pair_of (fact_at start place)) way → Contains ways way) → Crossing start place ways facts bridges index → Tabulates flow facts bridges (place + 1) (place + 1)
+      ((way : ℕ × ℕ) → BridgesOver flow (pair_of (pair_at start place)) way → Contains ways way) → Crossing start place ways facts bridges index → Tabulates flow facts bridges (place + 1) (place + 1)
   cross_end start facts bridges place ways index inside all_ways all is =
-      let same : fact_at facts place ≡ fact_at start place = grows_at _ start facts place (0, 0) is.grows inside in
+      let same : pair_at facts place ≡ pair_at start place = grows_at _ start facts place (0, 0) is.grows inside in
       tabulates_spanned facts bridges (place + 1) place (omega arith)
       (λ way over.
       let has = all way (subst (λ (f : ℕ × ℕ). BridgesOver flow (pair_of f) way) same over) in

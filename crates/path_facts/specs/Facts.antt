@@ -1,5 +1,5 @@
 -- Facts (Reps, Horwitz and Sagiv 1995): a vertex and a goal, from which a matched path leads to it.
-use Rattle.std.specs.Prelude.{ℕ, ◌≡◌, ◌≤◌, ◌<◌, ◌↔◌, List, map, length, slice_index_or}
+use Rattle.std.specs.Prelude.{ℕ, ◌≡◌, ◌≤◌, ◌<◌, ◌↔◌, List, map, length}
 use Rattle.std.specs.List.{All, Contains}
 use Rattle.matched_paths.specs.declared.flow_graph.FlowGraph.{FlowGraph}
 use Rattle.matched_paths.specs.declared.flow_graph.Pair.{Pair}
@@ -10,7 +10,7 @@ use Rattle.flow_index.specs.Crossings.{IsIndexOf}
 use Rattle.flow_index.specs.Ways.{AreAmong, BridgesOver}
 use Rattle.path_facts.specs.declared.ground.Ground.{Ground}
 use Rattle.path_facts.specs.declared.pair_set.PairSet.{PairSet}
-use Rattle.path_facts.specs.PairSets.{Grows, IsKept}
+use Rattle.path_facts.specs.PairSets.{Grows, IsKept, pair_at}
 
 -- The pairs hold, for each of the goals, all outs that flat edges and bridges over them lead to.
 abbrev pub HoldsOutsOf : FlowGraph → List ℕ → List Pair → Type 0
@@ -42,10 +42,6 @@ pub record IsGround (flow : FlowGraph) (ground : Ground) : Type 0 where
   pub outs : (vertex : ℕ) → Contains ground.outs.met vertex ↔ IsOut flow vertex
   pub crossings : IsIndexOf flow ground.crossings
 
--- The fact at a place.
-abbrev pub fact_at : PairSet → ℕ → ℕ × ℕ
-fact_at facts place = slice_index_or facts.pairs.items place (0, 0)
-
 -- Facts and bridges are so of the flow graph. The first facts were followed along all flat edges
 -- and bridges, and over the pairs of the first of them all bridges stand.
 pub record Tabulates (flow : FlowGraph) (facts bridges : PairSet) (followed spanned : ℕ) :
@@ -59,11 +55,11 @@ pub record Tabulates (flow : FlowGraph) (facts bridges : PairSet) (followed span
   pub bridges_matched : All (λ way. Matched flow way.0 way.1) bridges.pairs.items
   pub within : followed ≤ length facts.pairs.items
   pub behind : spanned ≤ followed
-  pub flat : (k to : ℕ) → k < followed → HasFlat flow (fact_at facts k).0 to →
-      Contains facts.pairs.items (to, (fact_at facts k).1)
+  pub flat : (k to : ℕ) → k < followed → HasFlat flow (pair_at facts k).0 to →
+      Contains facts.pairs.items (to, (pair_at facts k).1)
   pub bridged : (k to : ℕ) → k < followed →
-      Contains bridges.pairs.items ((fact_at facts k).0, to) →
-      Contains facts.pairs.items (to, (fact_at facts k).1)
+      Contains bridges.pairs.items ((pair_at facts k).0, to) →
+      Contains facts.pairs.items (to, (pair_at facts k).1)
   pub spans : (k : ℕ) (way : ℕ × ℕ) → k < spanned →
-      BridgesOver flow (record { goal = (fact_at facts k).1; out = (fact_at facts k).0 }) way →
+      BridgesOver flow (record { goal = (pair_at facts k).1; out = (pair_at facts k).0 }) way →
       Contains bridges.pairs.items way

@@ -1,11 +1,19 @@
 -- Sets of pairs of numbers that grow.
-use Rattle.std.specs.Prelude.{ℕ, ◌≡◌, ◌≢◌, ◌<◌, ◌↔◌, ◌++◌, List, map}
+use Rattle.std.specs.Prelude.{ℕ, ◌≡◌, ◌≢◌, ◌<◌, ◌++◌, List, map, length, slice_index_or}
 use Rattle.std.specs.List.{All, AllPairs, Contains}
 use Rattle.path_facts.specs.declared.pair_set.PairSet.{PairSet}
 
--- The set knows its pairs, has each once, and chains them by their first numbers.
+-- The pair at a position.
+abbrev pub pair_at : PairSet → ℕ → ℕ × ℕ
+pair_at set position = slice_index_or set.pairs.items position (0, 0)
+
+-- The set has each of its pairs once, and chains them by their first numbers. Those behind which
+-- another one with the same first number stands were passed.
 pub record IsKept (set : PairSet) : Type 0 where
-  pub known : (pair : ℕ × ℕ) → Contains set.known.keys pair ↔ Contains set.pairs.items pair
+  pub passed_stand : All (Contains set.pairs.items) set.passed.keys
+  pub passed : (position later : ℕ) → position < later → later < length set.pairs.items →
+      (pair_at set position).0 ≡ (pair_at set later).0 →
+      Contains set.passed.keys (pair_at set position)
   pub once : AllPairs (λ a b. a ≢ b) set.pairs.items
   pub below : All (λ pair. pair.0 < set.by_first.count) set.pairs.items
   pub keys : set.by_first.keys ≡ map (λ pair. pair.0) set.pairs.items

@@ -1,13 +1,35 @@
-use Rattle.std.proofs.Common.{refl}
-use Rattle.path_facts.proofs.Growing.{meets_known, meets_push}
+use Rattle.std.proofs.Common.{ℕ, ◌∷◌, [], ◌++◌, length, true, Option, ap, sym, ◌∙◌, subst}
+use Rattle.std.specs.List.{Contains}
+use Rattle.std.specs.BTreeSet as sorted
+use Rattle.flow_index.specs.Places.{IsLastPlace}
+use Rattle.path_facts.specs.declared.pair_set.PairSet.{PairSet}
+use Rattle.path_facts.proofs.Growing.{meets_first, meets_further, meets_known, pair_cmp}
 use Rattle.path_facts.proofs.pair_set.PairSet.meet.Goals as goal
+use Rattle.path_facts.proofs.pair_set.PairSet.meet.Goals.{in-Some+in_ok-insert, in_default}
 
-pub returns-in_ok-push-2 : goal.returns-in_ok-push-2
-returns-in_ok-push-2 c =
-    meets_push c.args.self.now (c.args.first, c.args.second) c.requires.kept _ c.in_ok-insert.field-0 c.if-branch.true c.in_ok-insert.ensures.added c.in_ok-insert.ensures.keys c.in_ok-insert.ensures.updates
-    c.in_ok-push.ensures.items c.requires.below c.push-then-branch.ensures.count c.in_ok-push-2.ensures.ok
+pub returns-then-has : goal.returns-then-has
+returns-then-has c = meets_known c.args.self.now (c.args.first, c.args.second) c.requires.kept (c.has.ensures.0 c.if-has.true)
 
-pub returns-else-branch : goal.returns-else-branch
-returns-else-branch c =
-    meets_known c.args.self.now (c.args.first, c.args.second) c.requires.kept _ c.in_ok-insert.field-0 c.if-branch.false c.in_ok-insert.ensures.added c.in_ok-insert.ensures.keys c.in_ok-insert.ensures.updates
-    refl refl refl
+pub returns : goal.returns
+returns c =
+    let set = c.args.self.now in
+    let pair : ℕ × ℕ = (c.args.first, c.args.second) in
+    let fresh : ¬ Contains set.pairs.items pair = λ has. let on = c.has.ensures.1 has in let off = c.if-has.false in cc in
+    elim c.match-last.branch [
+      | in-Some+in_ok-insert w ↦
+          let last = subst (λ (found : Option ℕ). IsLastPlace set.by_first.keys c.args.first (length set.by_first.keys) found) w.in-Some.is c.last.ensures in
+          meets_further set pair c.requires.kept _ fresh
+          (c.in_ok-push.ensures.items ∙ ap (λ (s : PairSet). s.pairs.items ++ pair ∷ []) w.self-is) c.requires.below
+          (c.push-2.ensures.count ∙ ap (λ (s : PairSet). s.by_first.count) w.self-is)
+          (c.in_ok-push-2.ensures.ok ∙ ap (λ (s : PairSet). s.by_first.keys ++ c.args.first ∷ []) w.self-is)
+          w.in-Some.position w.index.result.now w.index.ensures last
+          (ap (λ (s : PairSet). s.passed.keys) w.self-is ∙ w.in_ok-insert.ensures.keys)
+          (subst (λ (s : PairSet). sorted.Updates pair_cmp set.passed s.passed w.index.result.now true) (sym w.self-is) w.in_ok-insert.ensures.updates)
+      | in_default w ↦
+          let none = subst (λ (found : Option ℕ). IsLastPlace set.by_first.keys c.args.first (length set.by_first.keys) found) w.in_default.is c.last.ensures in
+          meets_first set pair c.requires.kept _ fresh
+          (c.in_ok-push.ensures.items ∙ ap (λ (s : PairSet). s.pairs.items ++ pair ∷ []) w.self-is) c.requires.below
+          (c.push-2.ensures.count ∙ ap (λ (s : PairSet). s.by_first.count) w.self-is)
+          (c.in_ok-push-2.ensures.ok ∙ ap (λ (s : PairSet). s.by_first.keys ++ c.args.first ∷ []) w.self-is)
+          (ap (λ (s : PairSet). s.passed) w.self-is) none
+    ]
