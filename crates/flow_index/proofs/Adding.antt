@@ -7,9 +7,9 @@ use Rattle.std.proofs.lemmas.List.Elements.{All-nil, All-append, All-weaker, All
 use Rattle.matched_paths.specs.declared.flow_graph.Crossing.{Crossing}
 use Rattle.matched_paths.specs.declared.flow_graph.FlowGraph.{FlowGraph}
 use Rattle.matched_paths.specs.declared.flow_graph.Pair.{Pair}
-use Rattle.matched_paths.specs.Edges.{IsAmong, IsWithin}
-use Rattle.flow_index.specs.Places.{IsLastPlace, Keys}
-use Rattle.flow_index.specs.Crossings.{AreGoalPlaces, AreCallPlaces}
+use Rattle.matched_paths.specs.Ends.{IsAmong}
+use Rattle.flow_index.specs.Positions.{IsLastPosition, Keys}
+use Rattle.flow_index.specs.Crossings.{AreGoalPositions, AreCallPositions}
 use Rattle.flow_index.specs.Ways.{AddsAll, Bridges, BridgesOver, Returns}
 use Rattle.flow_index.proofs.Walking.{Walks, walk_begin, walk_step, walk_end}
 
@@ -43,73 +43,73 @@ abbrev pub no_crossing : Crossing
 no_crossing = record { call = 0; from = 0; to = 0 }
 
 module _ (flow : FlowGraph) (keys : Keys) (from call out : ℕ) where
-  -- the close at the place is of another call or out, or its way was added
+  -- the close at the position is of another call or out, or its way was added
   abbrev pub IsReturned : List (ℕ × ℕ) → ℕ → Type 0
-  IsReturned ways place =
-      let close = get_or flow.closes place no_crossing in
+  IsReturned ways position =
+      let close = get_or flow.closes position no_crossing in
       close.call ≡ call → close.from ≡ out → Contains ways (from, close.to)
 
   pub record Returning (start ways : List (ℕ × ℕ)) (next : Option ℕ) : Type 0 where
     pub adds : Adds (Returns flow from call out) start ways
     pub walks : Walks keys.keys (min call flow.vertices) next (IsReturned ways)
 
-  key_of : AreCallPlaces flow keys → (place : ℕ) → place < length flow.closes → (place < length keys.keys) × (get_or keys.keys place 0 ≡ min (get_or flow.closes place no_crossing).call flow.vertices)
-  key_of are place within = (
+  key_of : AreCallPositions flow keys → (position : ℕ) → position < length flow.closes → (position < length keys.keys) × (get_or keys.keys position 0 ≡ min (get_or flow.closes position no_crossing).call flow.vertices)
+  key_of are position within = (
     rw (are.calls, length-map) within,
-    ap (λ (xs : List ℕ). get_or xs place 0) are.calls ∙ get_or-map (λ (c : Crossing). min c.call flow.vertices) flow.closes place no_crossing 0 within,
+    ap (λ (xs : List ℕ). get_or xs position 0) are.calls ∙ get_or-map (λ (c : Crossing). min c.call flow.vertices) flow.closes position no_crossing 0 within,
   )
 
-  pub return_begin : (start : List (ℕ × ℕ)) (found : Option ℕ) → IsLastPlace keys.keys (min call flow.vertices) (length keys.keys) found → Returning start start found
+  pub return_begin : (start : List (ℕ × ℕ)) (found : Option ℕ) → IsLastPosition keys.keys (min call flow.vertices) (length keys.keys) found → Returning start start found
   return_begin start found is = record { adds = adds_none _ start; walks = walk_begin keys.keys _ found _ is }
 
-  pub return_within : (start ways : List (ℕ × ℕ)) (at : ℕ) (next : Option ℕ) → AreCallPlaces flow keys → next ≡ Some at → Returning start ways next → at < length flow.closes
+  pub return_within : (start ways : List (ℕ × ℕ)) (at : ℕ) (next : Option ℕ) → AreCallPositions flow keys → next ≡ Some at → Returning start ways next → at < length flow.closes
   return_within start ways at next are some is =
       let on = (subst (λ (n : Option ℕ). Walks keys.keys (min call flow.vertices) n (IsReturned ways)) some is.walks).on in
       omega (arith, on.0, ap length are.calls, length-map flow.closes (λ (c : Crossing). min c.call flow.vertices))
 
-  pub return_step : (start ways after : List (ℕ × ℕ)) (at : ℕ) (next found : Option ℕ) → AreCallPlaces flow keys → next ≡ Some at → Returning start ways next → IsLastPlace keys.keys (get_or keys.keys at 0) at found →
+  pub return_step : (start ways after : List (ℕ × ℕ)) (at : ℕ) (next found : Option ℕ) → AreCallPositions flow keys → next ≡ Some at → Returning start ways next → IsLastPosition keys.keys (get_or keys.keys at 0) at found →
       Adds (Returns flow from call out) ways after → IsReturned after at → Returning start after found
   return_step start ways after at next found are some is last adds here = record {
     adds = adds_then _ start ways after is.adds adds;
-    walks = walk_step keys.keys _ at next found _ _ some is.walks last (λ place done same_call same_out. adds_keeps _ ways after _ adds (done same_call same_out)) here;
+    walks = walk_step keys.keys _ at next found _ _ some is.walks last (λ position done same_call same_out. adds_keeps _ ways after _ adds (done same_call same_out)) here;
   }
 
-  pub return_end : (start ways : List (ℕ × ℕ)) (next : Option ℕ) → AreCallPlaces flow keys → next ≡ None → Returning start ways next → AddsAll (Returns flow from call out) start ways
+  pub return_end : (start ways : List (ℕ × ℕ)) (next : Option ℕ) → AreCallPositions flow keys → next ≡ None → Returning start ways next → AddsAll (Returns flow from call out) start ways
   return_end start ways next are none is = record {
     more = is.adds.more;
     kept = is.adds.kept;
     new = is.adds.new;
     all = λ way returns.
-        let place = returns.closed.0 in
-        let close : get_or flow.closes place no_crossing ≡ record { call = call; from = out; to = way.1 } = get_or_default flow.closes place no_crossing _ returns.closed.1 ∙ returns.closed.2 in
-        let key = key_of are place returns.closed.1 in
-        let added = walk_end keys.keys _ next _ none is.walks place key.0 (key.1 ∙ ap (λ (c : Crossing). min c.call flow.vertices) close) (ap (λ (c : Crossing). c.call) close) (ap (λ (c : Crossing). c.from) close) in
-        let same : (from, (get_or flow.closes place no_crossing).to) ≡ way = ap (λ (x : ℕ). (x, (get_or flow.closes place no_crossing).to)) (sym returns.begins) ∙ ap (λ (c : Crossing). (way.0, c.to)) close in
+        let position = returns.closed.0 in
+        let close : get_or flow.closes position no_crossing ≡ record { call = call; from = out; to = way.1 } = get_or_default flow.closes position no_crossing _ returns.closed.1 ∙ returns.closed.2 in
+        let key = key_of are position returns.closed.1 in
+        let added = walk_end keys.keys _ next _ none is.walks position key.0 (key.1 ∙ ap (λ (c : Crossing). min c.call flow.vertices) close) (ap (λ (c : Crossing). c.call) close) (ap (λ (c : Crossing). c.from) close) in
+        let same : (from, (get_or flow.closes position no_crossing).to) ≡ way = ap (λ (x : ℕ). (x, (get_or flow.closes position no_crossing).to)) (sym returns.begins) ∙ ap (λ (c : Crossing). (way.0, c.to)) close in
         subst (λ (w : ℕ × ℕ). Contains ways w) same added;
   }
 
 module _ (flow : FlowGraph) (keys : Keys) (pair : Pair) where
-  -- the ways over the open at the place were added
+  -- the ways over the open at the position were added
   abbrev pub IsSpanned : List (ℕ × ℕ) → ℕ → Type 0
-  IsSpanned ways place =
-      let entry = get_or flow.opens place no_crossing in
+  IsSpanned ways position =
+      let entry = get_or flow.opens position no_crossing in
       (way : ℕ × ℕ) → Returns flow entry.from entry.call pair.out way → Contains ways way
 
   pub record Spanning (start ways : List (ℕ × ℕ)) (next : Option ℕ) : Type 0 where
     pub adds : Adds (BridgesOver flow pair) start ways
     pub walks : Walks keys.keys pair.goal next (IsSpanned ways)
 
-  goal_of : AreGoalPlaces flow keys → (place : ℕ) → place < length flow.opens → (place < length keys.keys) × (get_or keys.keys place 0 ≡ (get_or flow.opens place no_crossing).to)
-  goal_of are place within = (
+  goal_of : AreGoalPositions flow keys → (position : ℕ) → position < length flow.opens → (position < length keys.keys) × (get_or keys.keys position 0 ≡ (get_or flow.opens position no_crossing).to)
+  goal_of are position within = (
     rw (are.goals, length-map) within,
-    ap (λ (xs : List ℕ). get_or xs place 0) are.goals ∙ get_or-map (λ (c : Crossing). c.to) flow.opens place no_crossing 0 within,
+    ap (λ (xs : List ℕ). get_or xs position 0) are.goals ∙ get_or-map (λ (c : Crossing). c.to) flow.opens position no_crossing 0 within,
   )
 
-  pub span_begin : (start : List (ℕ × ℕ)) (found : Option ℕ) → IsLastPlace keys.keys pair.goal (length keys.keys) found → Spanning start start found
+  pub span_begin : (start : List (ℕ × ℕ)) (found : Option ℕ) → IsLastPosition keys.keys pair.goal (length keys.keys) found → Spanning start start found
   span_begin start found is = record { adds = adds_none _ start; walks = walk_begin keys.keys _ found _ is }
 
   -- the ways over an open to the goal are bridges over the pair
-  span_over : AreGoalPlaces flow keys → (at : ℕ) → at < length keys.keys → get_or keys.keys at 0 ≡ pair.goal → (way : ℕ × ℕ) →
+  span_over : AreGoalPositions flow keys → (at : ℕ) → at < length keys.keys → get_or keys.keys at 0 ≡ pair.goal → (way : ℕ × ℕ) →
       Returns flow (get_or flow.opens at no_crossing).from (get_or flow.opens at no_crossing).call pair.out way → BridgesOver flow pair way
   span_over are at inside key way returns =
       let within : at < length flow.opens = omega (arith, inside, ap length are.goals, length-map flow.opens (λ (c : Crossing). c.to)) in
@@ -123,26 +123,26 @@ module _ (flow : FlowGraph) (keys : Keys) (pair : Pair) where
         closed = returns.closed;
       }
 
-  pub span_step : (start ways after : List (ℕ × ℕ)) (at : ℕ) (d : Crossing) (next found : Option ℕ) → AreGoalPlaces flow keys → next ≡ Some at → Spanning start ways next → IsLastPlace keys.keys (get_or keys.keys at 0) at found →
+  pub span_step : (start ways after : List (ℕ × ℕ)) (at : ℕ) (d : Crossing) (next found : Option ℕ) → AreGoalPositions flow keys → next ≡ Some at → Spanning start ways next → IsLastPosition keys.keys (get_or keys.keys at 0) at found →
       AddsAll (Returns flow (get_or flow.opens at no_crossing).from (get_or flow.opens at no_crossing).call pair.out) ways after → Spanning start after found
   span_step start ways after at d next found are some is last added =
       let on = (subst (λ (n : Option ℕ). Walks keys.keys pair.goal n (IsSpanned ways)) some is.walks).on in
       let adds = adds_from_all _ (BridgesOver flow pair) ways after (span_over are at on.0 on.1) added in
       record {
         adds = adds_then _ start ways after is.adds adds;
-        walks = walk_step keys.keys _ at next found _ _ some is.walks last (λ place done way returns. adds_keeps _ ways after way adds (done way returns)) added.all;
+        walks = walk_step keys.keys _ at next found _ _ some is.walks last (λ position done way returns. adds_keeps _ ways after way adds (done way returns)) added.all;
       }
 
-  pub span_end : (start ways : List (ℕ × ℕ)) (next : Option ℕ) → AreGoalPlaces flow keys → next ≡ None → Spanning start ways next → AddsAll (BridgesOver flow pair) start ways
+  pub span_end : (start ways : List (ℕ × ℕ)) (next : Option ℕ) → AreGoalPositions flow keys → next ≡ None → Spanning start ways next → AddsAll (BridgesOver flow pair) start ways
   span_end start ways next are none is = record {
     more = is.adds.more;
     kept = is.adds.kept;
     new = is.adds.new;
     all = λ way over.
-        let place = over.opened.0 in
-        let entry : get_or flow.opens place no_crossing ≡ record { call = over.call; from = way.0; to = pair.goal } = get_or_default flow.opens place no_crossing _ over.opened.1 ∙ over.opened.2 in
-        let key = goal_of are place over.opened.1 in
-        walk_end keys.keys _ next _ none is.walks place key.0 (key.1 ∙ ap (λ (c : Crossing). c.to) entry) way
+        let position = over.opened.0 in
+        let entry : get_or flow.opens position no_crossing ≡ record { call = over.call; from = way.0; to = pair.goal } = get_or_default flow.opens position no_crossing _ over.opened.1 ∙ over.opened.2 in
+        let key = goal_of are position over.opened.1 in
+        walk_end keys.keys _ next _ none is.walks position key.0 (key.1 ∙ ap (λ (c : Crossing). c.to) entry) way
         (subst (λ (c : Crossing). Returns flow c.from c.call pair.out way) (sym entry) (record { begins = refl; closed = over.closed }));
   }
 
@@ -171,12 +171,12 @@ bridging_more flow pairs ways after index d within is added = record {
 }
 
 -- a pair whose goal is no vertex has no bridges
-pub over_none : (flow : FlowGraph) (pair : Pair) (ways : List (ℕ × ℕ)) → IsWithin flow → flow.vertices ≤ pair.goal → AddsAll (BridgesOver flow pair) ways ways
-over_none flow pair ways within beyond = record {
+pub over_none : (flow : FlowGraph) (pair : Pair) (ways : List (ℕ × ℕ)) → flow.vertices ≤ pair.goal → AddsAll (BridgesOver flow pair) ways ways
+over_none flow pair ways beyond = record {
   more = [];
   kept = sym (append-nil ways);
   new = All-nil (BridgesOver flow pair);
-  all = λ way over. let below = (All-contains (IsAmong flow.vertices) flow.opens _ within.opens over.opened).to in absurd (omega arith);
+  all = λ way over. let below = (All-contains (IsAmong flow.vertices) flow.opens _ flow.within.opens over.opened).to in absurd (omega arith);
 }
 
 pub bridging_end : (flow : FlowGraph) (pairs : List Pair) (ways : List (ℕ × ℕ)) (index : ℕ) → length pairs ≤ index → Bridging flow pairs ways index → (a b : ℕ) →

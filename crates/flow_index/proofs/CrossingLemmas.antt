@@ -4,7 +4,7 @@ use Rattle.std.specs.List.{Contains}
 use Rattle.std.proofs.lemmas.List.{length-map, get_or-map}
 use Rattle.std.proofs.lemmas.List.Elements.{Contains-get_or}
 use Rattle.matched_paths.specs.declared.flow_graph.Crossing.{Crossing}
-use Rattle.flow_index.specs.Crossings.{Crosses}
+use Rattle.matched_paths.specs.Edges.{Crosses}
 
 abbrev pub way_of : Crossing → ℕ × ℕ
 way_of crossing = (crossing.from, crossing.to)

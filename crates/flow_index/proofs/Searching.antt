@@ -43,7 +43,7 @@ start_none count ways starts set counts empty = record {
 pub start_more : (count : ℕ) (ways : List (ℕ × ℕ)) (starts : List ℕ) (set after : Vertices) (index : ℕ) → index < length starts → Starting count ways starts set index → Meets set after (get_or starts index 0) → Starting count ways starts after (index + 1)
 start_more count ways starts set after index within is meets = record {
   count_is = meets.grows.count ∙ is.count_is;
-  sound = sound_more ways starts _ set after (λ vertex same. record { start = get_or starts index 0; among = Contains-get_or starts index 0 within; path = subst (λ (v : ℕ). Path (HasWay ways) (get_or starts index 0) v) (sym same) none }) meets.grows is.sound;
+  sound = sound_more ways starts _ set after (λ vertex same. record { start = get_or starts index 0; among = Contains-get_or starts index 0 within; leads = subst (λ (v : ℕ). Path (HasWay ways) (get_or starts index 0) v) (sym same) none }) meets.grows is.sound;
   met = λ k less inside. elim (cases_lt k index) [
     | inl before ↦ grows_keeps _ set after _ meets.grows (is.met k before inside)
     | inr not_before ↦
@@ -73,7 +73,7 @@ reach_more count ways starts set after next within is grows follows =
     let reached = turn_reached ways starts set next within is.sound in
     record {
       count_is = grows.count ∙ is.count_is;
-      sound = sound_more ways starts _ set after (λ vertex way. record { start = reached.start; among = reached.among; path = path_end reached.path way }) grows is.sound;
+      sound = sound_more ways starts _ set after (λ vertex way. record { start = reached.start; among = reached.among; leads = path_end reached.leads way }) grows is.sound;
       met = λ k d inside. grows_keeps _ set after _ grows (is.met k d inside);
       within = omega arith;
       followed = λ k less to has. elim (cases_lt k next) [
@@ -100,5 +100,5 @@ reach_end count ways starts set next all is vertex =
     let at : get_or set.met has.0 0 ≡ a = get_or_default set.met has.0 0 a has.1 ∙ has.2 in
     is.followed has.0 below b (subst (λ (v : ℕ). Contains ways (v, b)) (sym at) way) in (
       λ has. All-contains (IsReached ways starts) set.met vertex is.sound has,
-      λ reached. path_met ways set closed (All-contains (Contains set.met) starts reached.start is.met reached.among) reached.path,
+      λ reached. path_met ways set closed (All-contains (Contains set.met) starts reached.start is.met reached.among) reached.leads,
     )

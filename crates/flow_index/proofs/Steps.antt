@@ -4,7 +4,7 @@ use Rattle.std.specs.List.{Contains}
 use Rattle.std.proofs.lemmas.List.Elements.{All-contains, Contains-append_left, Contains-append_right, Contains-append_cases, Contains-get_or}
 use Rattle.matched_paths.specs.declared.flow_graph.FlowGraph.{FlowGraph}
 use Rattle.matched_paths.specs.declared.flow_graph.Pair.{Pair}
-use Rattle.matched_paths.specs.Edges.{IsAmong, IsWithin}
+use Rattle.matched_paths.specs.Ends.{IsAmong}
 use Rattle.matched_paths.specs.Folded as f
 use Rattle.matched_paths.specs.Folded.{FoldedStep}
 use Rattle.flow_index.specs.Ways.{AreAmong, AreSteps, Bridges}
@@ -26,10 +26,10 @@ module _ (flow : FlowGraph) (pairs : List Pair) where
           Contains-append_left bridges flow.flat (x, y) ((are x y).1 (record { pair = record { goal = goal; out = out }; stands = so; over = record { call = call; opened = opened; closed = closed } }))
 
   -- the ends of folded steps are vertices
-  step_among : IsWithin flow → (a b : ℕ) → FoldedStep flow (Contains pairs) a b → (a < flow.vertices) × (b < flow.vertices)
-  step_among within a b (f.flat edge) = All-contains (λ (e : ℕ × ℕ). (e.0 < flow.vertices) × (e.1 < flow.vertices)) flow.flat (a, b) within.flat edge
-  step_among within a b (f.bridge call goal out opened so closed) =
-      ((All-contains (IsAmong flow.vertices) flow.opens _ within.opens opened).from, (All-contains (IsAmong flow.vertices) flow.closes _ within.closes closed).to)
+  step_among : (a b : ℕ) → FoldedStep flow (Contains pairs) a b → (a < flow.vertices) × (b < flow.vertices)
+  step_among a b (f.flat edge) = All-contains (λ (e : ℕ × ℕ). (e.0 < flow.vertices) × (e.1 < flow.vertices)) flow.flat (a, b) flow.within.flat edge
+  step_among a b (f.bridge call goal out opened so closed) =
+      ((All-contains (IsAmong flow.vertices) flow.opens _ flow.within.opens opened).from, (All-contains (IsAmong flow.vertices) flow.closes _ flow.within.closes closed).to)
 
-  pub steps_among : (ways : List (ℕ × ℕ)) → IsWithin flow → AreSteps flow pairs ways → AreAmong flow.vertices ways
-  steps_among ways within are k d inside = let way = get_or ways k d in step_among within way.0 way.1 ((are way.0 way.1).0 (Contains-get_or ways k d inside))
+  pub steps_among : (ways : List (ℕ × ℕ)) → AreSteps flow pairs ways → AreAmong flow.vertices ways
+  steps_among ways are k d inside = let way = get_or ways k d in step_among way.0 way.1 ((are way.0 way.1).0 (Contains-get_or ways k d inside))

@@ -1,5 +1,5 @@
 -- What contracts of this crate say, in the order of reading.
 pub mod Ways
-pub mod Places
+pub mod Positions
 pub mod Vertices
 pub mod Crossings

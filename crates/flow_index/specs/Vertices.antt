@@ -8,7 +8,7 @@ pub record Vertices : Type 0 where
   pub count : ℕ
   pub met : List ℕ
 
--- The set grows by vertices that are so, and keeps what was met at its place.
+-- The set grows by vertices that are so, and keeps what was met at its position.
 pub record Grows (IsSo : ℕ → Type 0) (before after : Vertices) : Type 0 where
   pub count : after.count ≡ before.count
   pub more : List ℕ

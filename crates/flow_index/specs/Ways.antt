@@ -1,25 +1,24 @@
 -- Ways, which are edges without labels, and what they lead to.
-use Rattle.std.specs.Prelude.{ℕ, ◌≡◌, ◌<◌, ◌↔◌, ◌++◌, List}
+use Rattle.std.specs.Prelude.{ℕ, ◌≡◌, ◌↔◌, ◌++◌, List}
 use Rattle.std.specs.List.{All, Contains}
 use Rattle.matched_paths.specs.declared.flow_graph.FlowGraph.{FlowGraph}
 use Rattle.matched_paths.specs.declared.flow_graph.Pair.{Pair}
+use Rattle.matched_paths.specs.Ends.{HasEndsAmong}
 use Rattle.matched_paths.specs.Edges.{HasOpen, HasClose}
 use Rattle.matched_paths.specs.Folded.{FoldedStep}
-use Rattle.matched_paths.specs.Path.{Path}
+use Rattle.matched_paths.specs.Path.{IsLedTo, Path}
 
 -- Both ends of each way are among so many vertices.
 abbrev pub AreAmong : ℕ → List (ℕ × ℕ) → Type 0
-AreAmong count ways = All (λ way. (way.0 < count) × (way.1 < count)) ways
+AreAmong count = All (HasEndsAmong count)
 
 -- A way leads from a to b.
 abbrev pub HasWay : List (ℕ × ℕ) → ℕ → ℕ → Type 0
 HasWay ways a b = Contains ways (a, b)
 
 -- Ways lead from a start to the vertex, none or more.
-pub record IsReached (ways : List (ℕ × ℕ)) (starts : List ℕ) (vertex : ℕ) : Type 0 where
-  pub start : ℕ
-  pub among : Contains starts start
-  pub path : Path (HasWay ways) start vertex
+abbrev pub IsReached : List (ℕ × ℕ) → List ℕ → ℕ → Type 0
+IsReached ways = IsLedTo (Path (HasWay ways))
 
 -- A bridge over the pair leads along the way: a call opens its goal from the one end, and closes
 -- its out to the other.

@@ -2,9 +2,8 @@
 
 ghost use Rattle.std.specs.Prelude.{ℕ, ◌≡◌, ◌<◌, ◌↔◌, IfOk, IsTrue, OnOk};
 ghost use Rattle.std.specs.List.{Contains};
-ghost use Rattle.matched_paths.specs.Edges.{IsWithin};
 ghost use Rattle.flow_index.specs.Ways.{AddsAll, AreAmong, AreSteps, Bridges, BridgesOver, Returns};
-ghost use Rattle.flow_index.specs.Crossings.{AreCallPlaces, AreGoalPlaces, IsIndexOf};
+ghost use Rattle.flow_index.specs.Crossings.{AreCallPositions, AreGoalPositions, IsIndexOf};
 
 use crate::chains::Chains;
 use matched_paths::{Crossing, FlowGraph, Pair};
@@ -26,16 +25,16 @@ fn add_returns(
     out: u32,
     ways: &mut Vec<(u32, u32)>,
 ) -> Result<(), AllocError>
-    requires { AreCallPlaces flow.now by_call.now }
+    requires { AreCallPositions flow.now by_call.now }
     ensures { OnOk result (AddsAll (Returns flow.now from call out) ways.old.items ways.new.items) }
 {
     let mut next = by_call.last(call.min(flow.vertices));
-    while let Some(place) = next {
-        let close = &flow.closes.items()[place as usize];
+    while let Some(position) = next {
+        let close = &flow.closes.items()[position as usize];
         if closes(close, call, out) {
             ways.push((from, close.to))?;
         }
-        next = by_call.before(place);
+        next = by_call.before(position);
     }
     Ok(())
 }
@@ -49,15 +48,15 @@ fn add_bridges(
     ways: &mut Vec<(u32, u32)>,
 ) -> Result<(), AllocError>
     requires goal { pair.goal < by_goal.now.count }
-    requires goals { AreGoalPlaces flow.now by_goal.now }
-    requires calls { AreCallPlaces flow.now by_call.now }
+    requires goals { AreGoalPositions flow.now by_goal.now }
+    requires calls { AreCallPositions flow.now by_call.now }
     ensures { OnOk result (AddsAll (BridgesOver flow.now pair) ways.old.items ways.new.items) }
 {
     let mut next = by_goal.last(pair.goal);
-    while let Some(place) = next {
-        let entry = &flow.opens.items()[place as usize];
+    while let Some(position) = next {
+        let entry = &flow.opens.items()[position as usize];
         add_returns(flow, by_call, entry.from, entry.call, pair.out, ways)?;
-        next = by_goal.before(place);
+        next = by_goal.before(position);
     }
     Ok(())
 }
@@ -72,7 +71,6 @@ pub struct CrossingIndex {
 impl CrossingIndex {
     /// The index of a flow graph.
     pub fn of(alloc: Global, flow: &FlowGraph) -> Result<CrossingIndex, AllocError>
-        requires { IsWithin flow.now }
         ensures { IfOk result (IsIndexOf flow.now) }
     {
         let goals: Vec<u32> = flow
@@ -100,8 +98,7 @@ impl CrossingIndex {
         pair: Pair,
         ways: &mut Vec<(u32, u32)>,
     ) -> Result<(), AllocError>
-        requires within { IsWithin flow.now }
-        requires index { IsIndexOf flow.now self.now }
+        requires { IsIndexOf flow.now self.now }
         ensures { OnOk result (AddsAll (BridgesOver flow.now pair) ways.old.items ways.new.items) }
     {
         if pair.goal >= flow.vertices {
@@ -114,7 +111,6 @@ impl CrossingIndex {
 /// The bridges over these pairs: ways from where a call opens a pair's goal to where it closes the
 /// pair's out.
 fn bridges(alloc: Global, flow: &FlowGraph, pairs: &[Pair]) -> Result<Vec<(u32, u32)>, AllocError>
-    requires { IsWithin flow.now }
     ensures { IfOk result (λ ways. (a b : ℕ) →
         Contains ways.items (a, b) ↔ Bridges flow.now pairs.now a b) }
 {
@@ -132,7 +128,6 @@ pub fn folded_ways(
     flow: &FlowGraph,
     pairs: &[Pair],
 ) -> Result<Vec<(u32, u32)>, AllocError>
-    requires { IsWithin flow.now }
     ensures steps { IfOk result (λ ways. AreSteps flow.now pairs.now ways.items) }
     ensures within { IfOk result (λ ways. AreAmong flow.now.vertices ways.items) }
 {

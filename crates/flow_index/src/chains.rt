@@ -3,26 +3,26 @@
 ghost use Rattle.std.specs.Prelude.{ℕ, ◌≡◌, ◌+◌, ◌<◌, ◌^◌, [], ◌∷◌, ◌++◌};
 ghost use Rattle.std.specs.Prelude.{length, slice_index, IfOk, OnErr, OnOk};
 ghost use Rattle.std.specs.List.{All};
-ghost use Rattle.flow_index.specs.Places.{IsLastPlace};
+ghost use Rattle.flow_index.specs.Positions.{IsLastPosition};
 
 use std::alloc::{AllocError, Global};
 use std::marker::Model;
 
-/// For each key below a count, the places of a list at which it stands, from the last on.
+/// For each key below a count, the positions of a list at which it stands, from the last on.
 ///
 /// Contracts see the count and the list of keys. A list of 2^32 keys counts as want of memory.
 #[derive(Drop)]
 pub struct Chains {
-    /// The last place of each key.
+    /// The last position of each key.
     last: Vec<Option<u32>>,
     keys: Vec<u32>,
-    /// For each place the one before it that has the same key.
+    /// For each position the one before it that has the same key.
     before: Vec<Option<u32>>,
 }
 
 impl Model for Chains {
     ghost use Rattle.std.specs.Prelude.{length};
-    ghost use Rattle.flow_index.specs.Places.{Keys, AreChained};
+    ghost use Rattle.flow_index.specs.Positions.{Keys, AreChained};
 
     ghost Value = { Keys };
 
@@ -41,10 +41,18 @@ impl Chains {
         ensures count { IfOk result (λ chains. chains.count ≡ count) }
         ensures keys { IfOk result (λ chains. chains.keys ≡ []) }
     {
+        Chains::with_room(alloc, count, 0)
+    }
+
+    /// No keys yet, and the memory that so many keys take.
+    fn with_room(alloc: Global, count: usize, room: usize) -> Result<Chains, AllocError>
+        ensures count { IfOk result (λ chains. chains.count ≡ count) }
+        ensures keys { IfOk result (λ chains. chains.keys ≡ []) }
+    {
         Ok(Chains {
             last: Vec::from_elem(alloc, None, count)?,
-            keys: Vec::new(alloc),
-            before: Vec::new(alloc),
+            keys: Vec::with_capacity(alloc, room)?,
+            before: Vec::with_capacity(alloc, room)?,
         })
     }
 
@@ -54,7 +62,7 @@ impl Chains {
         ensures count { IfOk result (λ chains. chains.count ≡ count) }
         ensures keys { IfOk result (λ chains. chains.keys ≡ keys.now) }
     {
-        let mut chains = Chains::new(alloc, count)?;
+        let mut chains = Chains::with_room(alloc, count, keys.len())?;
         for key in keys {
             chains.push(*key)?;
         }
@@ -68,7 +76,7 @@ impl Chains {
         ensures ok { OnOk result (self.new.keys ≡ self.old.keys ++ key ∷ []) }
         ensures err { OnErr result (self.new.keys ≡ self.old.keys) }
     {
-        let Ok(place) = u32::try_from(self.keys.len()) else {
+        let Ok(position) = u32::try_from(self.keys.len()) else {
             return Err(AllocError);
         };
         let before = self.last[key as usize];
@@ -77,23 +85,23 @@ impl Chains {
             self.before.pop();
             return Err(failed.into());
         }
-        self.last[key as usize] = Some(place);
+        self.last[key as usize] = Some(position);
         Ok(())
     }
 
-    /// The last place of a key.
+    /// The last position of a key.
     pub fn last(&self, key: u32) -> Option<u32>
         requires { key < self.now.count }
-        ensures { IsLastPlace self.now.keys key (length self.now.keys) result }
+        ensures { IsLastPosition self.now.keys key (length self.now.keys) result }
     {
         self.last[key as usize]
     }
 
-    /// The place before this one that has the same key.
-    pub fn before(&self, place: u32) -> Option<u32>
-        requires { place < length self.now.keys }
-        ensures { IsLastPlace self.now.keys (slice_index self.now.keys place) place result }
+    /// The position before this one that has the same key.
+    pub fn before(&self, position: u32) -> Option<u32>
+        requires { position < length self.now.keys }
+        ensures { IsLastPosition self.now.keys (slice_index self.now.keys position) position result }
     {
-        self.before[place as usize]
+        self.before[position as usize]
     }
 }

@@ -2,7 +2,7 @@
 
 ghost use Rattle.std.specs.Prelude.{ℕ, ◌≡◌, ◌↔◌, map, IfOk};
 ghost use Rattle.std.specs.List.{Contains};
-ghost use Rattle.flow_index.specs.Crossings.{Crosses};
+ghost use Rattle.matched_paths.specs.Edges.{Crosses};
 
 use matched_paths::Crossing;
 use std::alloc::{AllocError, Global};

@@ -1,4 +1,4 @@
-//! A flow graph's edges by their ends, and which vertices a set of edges leads to: flat arrays, and
+//! A flow graph's edges by their ends, in flat arrays, and which vertices a set of edges leads to, in
 //! time linear in edges and vertices.
 #![tactic(auto)]
 

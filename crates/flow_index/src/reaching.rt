@@ -23,9 +23,9 @@ fn follow(
     ensures all { OnOk result (FollowsAll ways.now from set.new) }
 {
     let mut next = chains.last(from);
-    while let Some(place) = next {
-        set.meet(ways[place as usize].1)?;
-        next = chains.before(place);
+    while let Some(position) = next {
+        set.meet(ways[position as usize].1)?;
+        next = chains.before(position);
     }
     Ok(())
 }

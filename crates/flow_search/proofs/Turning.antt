@@ -1,20 +1,20 @@
 -- Flows are found in two turns over the table's pairs.
-use Rattle.std.proofs.Common.{◌≡◌, ℕ, ◌+◌, ◌<◌, ◌≤◌, ◌⊎◌, inl, inr, List, [], ◌∷◌, ◌++◌, length, get_or, refl, sym, ap, ◌∙◌, arith, subst}
+use Rattle.std.proofs.Common.{◌≡◌, ℕ, ◌<◌, ◌⊎◌, inl, inr, List, ◌++◌, get_or, sym, subst}
 use Rattle.std.specs.List.{All, Contains}
 use Rattle.std.proofs.lemmas.List.Elements.{All-contains, Contains-append_left, Contains-append_right, Contains-append_cases, Contains-get_or}
 use Rattle.matched_paths.specs.declared.flow_graph.Crossing.{Crossing}
 use Rattle.matched_paths.specs.declared.flow_graph.FlowGraph.{FlowGraph}
 use Rattle.matched_paths.specs.declared.flow_graph.Pair.{Pair}
-use Rattle.matched_paths.specs.Edges.{Closes, IsAmong, IsWithin, Opens}
+use Rattle.matched_paths.specs.Ends.{IsAmong}
+use Rattle.matched_paths.specs.Edges.{Crosses}
 use Rattle.matched_paths.specs.Path.{EachStep, Path, none, step}
-use Rattle.matched_paths.specs.Matched.{Flows, IsTruePair}
+use Rattle.matched_paths.specs.Matched.{IsTruePair}
 use Rattle.matched_paths.specs.Folded as f
 use Rattle.matched_paths.specs.Folded.{Folded, FoldedStep}
-use Rattle.matched_paths.specs.Wanted.{IsWantedPair, NeedsWanted, NeedsWantedOr, NeedsWantedAlone}
+use Rattle.matched_paths.specs.Wanted.{IsWantedPair, NeedsWanted, NeedsWantedOr}
 use Rattle.matched_paths.proofs.PathLemmas.{path_map}
 use Rattle.matched_paths.proofs.Folding.{flow_folded, flow_unfolded}
 use Rattle.matched_paths.proofs.Needing.{needs_wanted}
-use Rattle.flow_index.specs.Crossings.{Crosses}
 use Rattle.flow_index.specs.Ways.{AreAmong, AreSteps, HasWay, IsReached}
 use Rattle.summary_core.specs.Table.{IsClosed, Table}
 use Rattle.flow_search.specs.Flowing.{FlowsFrom}
@@ -85,18 +85,18 @@ turns_flow table starts steps out into turns closed among are both_out both_into
           record {
             start = first.start;
             among = first.among;
-            flows = flow_unfolded flow (record {
+            leads = flow_unfolded flow (record {
               turn = reached.start;
-              out = ways_steps flow table.starts table.pairs closed.exact steps are flow.closes out both_out first.path;
-              into = ways_steps flow table.starts table.pairs closed.exact steps are flow.opens into both_into reached.path;
+              out = ways_steps flow table.starts table.pairs closed.exact steps are flow.closes out both_out first.leads;
+              into = ways_steps flow table.starts table.pairs closed.exact steps are flow.opens into both_into reached.leads;
             });
           },
       λ from.
-          let path = flow_folded flow from.flows in
+          let path = flow_folded flow from.leads in
           let needs = needs_wanted flow table.starts (All-contains (Contains table.starts) starts from.start among from.among) path in
           record {
             start = path.turn;
-            among = (turned path.turn).1 (record { start = from.start; among = from.among; path = steps_ways flow table.starts table.pairs closed.exact steps are flow.closes out both_out path.out needs.out });
-            path = steps_ways flow table.starts table.pairs closed.exact steps are flow.opens into both_into path.into needs.into;
+            among = (turned path.turn).1 (record { start = from.start; among = from.among; leads = steps_ways flow table.starts table.pairs closed.exact steps are flow.closes out both_out path.out needs.out });
+            leads = steps_ways flow table.starts table.pairs closed.exact steps are flow.opens into both_into path.into needs.into;
           },
     )

@@ -3,12 +3,11 @@ use Rattle.std.specs.Prelude.{ℕ, ◌↔◌, List}
 use Rattle.std.specs.List.{Contains}
 use Rattle.matched_paths.specs.declared.flow_graph.FlowGraph.{FlowGraph}
 use Rattle.matched_paths.specs.Matched.{Flows}
+use Rattle.matched_paths.specs.Path.{IsLedTo}
 
 -- A flow leads from one of the starts to the vertex, perhaps the empty one.
-pub record FlowsFrom (flow : FlowGraph) (starts : List ℕ) (vertex : ℕ) : Type 0 where
-  pub start : ℕ
-  pub among : Contains starts start
-  pub flows : Flows flow start vertex
+abbrev pub FlowsFrom : FlowGraph → List ℕ → ℕ → Type 0
+FlowsFrom flow = IsLedTo (Flows flow)
 
 -- These are the vertices to which a flow leads from one of the starts.
 abbrev pub IsReachedFrom : FlowGraph → List ℕ → List ℕ → Type 0

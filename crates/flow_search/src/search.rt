@@ -2,7 +2,7 @@
 
 ghost use Rattle.std.specs.Prelude.{ℕ, ◌⊎◌, ◌<◌, ◌↔◌, IfOk, IsTrue};
 ghost use Rattle.std.specs.List.{All, Contains};
-ghost use Rattle.flow_index.specs.Crossings.{Crosses};
+ghost use Rattle.matched_paths.specs.Edges.{Crosses};
 ghost use Rattle.flow_search.specs.Flowing.{IsReachedFrom};
 
 use flow_index::{VertexSet, folded_ways, reached, ways_of};

@@ -110,18 +110,17 @@ fn crossings(alloc: Global, ends: &[(u32, u32, u32)]) -> Result<List<Crossing>, 
     Ok(List::of(crossings))
 }
 
-fn graph(alloc: Global, case: &Case) -> Result<FlowGraph, AllocError> {
-    Ok(FlowGraph {
-        vertices: case.vertices,
-        flat: List::of(Vec::from_slice(alloc, case.flat)?),
-        opens: crossings(alloc, case.opens)?,
-        closes: crossings(alloc, case.closes)?,
-    })
+fn graph(alloc: Global, case: &Case) -> Result<FlowGraph, Fail> {
+    let flat = List::of(Vec::from_slice(alloc, case.flat)?);
+    let opens = crossings(alloc, case.opens)?;
+    let closes = crossings(alloc, case.closes)?;
+    let flow = FlowGraph::new(case.vertices, flat, opens, closes);
+    Ok(flow.ok_or("an end is no vertex")?)
 }
 
 /// 40 methods of three vertices, each of which calls the next twice; the last leads from its first
 /// vertex to its last.
-fn doubling(alloc: Global) -> Result<FlowGraph, AllocError> {
+fn doubling(alloc: Global) -> Result<FlowGraph, Fail> {
     let mut opens = Vec::new(alloc);
     let mut closes = Vec::new(alloc);
     for caller in 0..39u32 {
@@ -137,18 +136,15 @@ fn doubling(alloc: Global) -> Result<FlowGraph, AllocError> {
             })?;
         }
     }
-    Ok(FlowGraph {
-        vertices: 120,
-        flat: List::of(Vec::from_slice(alloc, &[(117, 118), (118, 119)])?),
-        opens: List::of(opens),
-        closes: List::of(closes),
-    })
+    let flat = Vec::from_slice(alloc, &[(117, 118), (118, 119)])?;
+    let flow = FlowGraph::new(120, List::of(flat), List::of(opens), List::of(closes));
+    Ok(flow.ok_or("an end is no vertex")?)
 }
 
 fn closed(alloc: Global, flow: FlowGraph, starts: &[u32]) -> Result<Closed, Fail> {
     let starts = List::of(Vec::from_slice(alloc, starts)?);
     if !may_be_closed(&flow, starts.items()) {
-        return Err(Fail::from("an end is no vertex"));
+        return Err(Fail::from("a start is no vertex"));
     }
     Ok(table_one(alloc, Arc::new(alloc, flow)?, starts)?)
 }

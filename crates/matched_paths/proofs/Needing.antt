@@ -37,7 +37,7 @@ module _ (flow : FlowGraph) (starts : List ℕ) where
 
   pub needs_wanted : {a b : ℕ} → Contains starts a → (path : Folded flow (IsTruePair flow) a b) → NeedsWantedAlone flow starts path
   needs_wanted {a} {b} from path =
-      let met : IsMet flow starts a = (a, from, none) in
+      let met : IsMet flow starts a = record { start = a; among = from; leads = none } in
       record {
         out = part_needs (Closes flow) (λ x y crosses. w.closes crosses) met path.out;
         into = part_needs (Opens flow) (λ x y crosses. w.opens crosses) (part_met (Closes flow) (λ x y crosses. w.closes crosses) met path.out) path.into;

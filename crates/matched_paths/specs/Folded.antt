@@ -1,8 +1,9 @@
 -- Folded paths: what lies between a call and its return is one step.
-use Rattle.std.specs.Prelude.{ℕ, ◌⊎◌}
+use Rattle.std.specs.Prelude.{ℕ, ◌⊎◌, List}
+use Rattle.std.specs.List.{Contains}
 use Rattle.matched_paths.specs.declared.flow_graph.FlowGraph.{FlowGraph}
 use Rattle.matched_paths.specs.declared.flow_graph.Pair.{Pair}
-use Rattle.matched_paths.specs.Edges.{HasFlat, HasOpen, HasClose, Opens, Closes}
+use Rattle.matched_paths.specs.Edges.{HasFlat, HasOpen, HasClose, Opens, Closes, IsOut}
 use Rattle.matched_paths.specs.Path.{Path}
 
 -- A flat edge leads from a to b; or a bridge, over a pair that is so: the open of a call leads from
@@ -16,6 +17,17 @@ pub data FoldedStep (flow : FlowGraph) (IsSo : Pair → Type 0) (a b : ℕ) : Ty
 -- Flat edges and bridges over such pairs lead from a to b.
 abbrev pub Leads : FlowGraph → (Pair → Type 0) → ℕ → ℕ → Type 0
 Leads flow IsSo = Path (FoldedStep flow IsSo)
+
+-- Such a path leads from the goal to the out.
+pub record LeadsOut (flow : FlowGraph) (IsSo : Pair → Type 0) (goal out : ℕ) : Type 0 where
+  pub is_out : IsOut flow out
+  pub leads : Leads flow IsSo goal out
+
+-- The pairs hold, for each goal that is so, all outs that flat edges and bridges over them lead to.
+abbrev pub HoldsOutsOf : FlowGraph → (ℕ → Type 0) → List Pair → Type 0
+HoldsOutsOf flow IsSo pairs = (goal out : ℕ) → IsSo goal →
+    LeadsOut flow (Contains pairs) goal out →
+    Contains pairs (record { goal = goal; out = out })
 
 -- A folded path over such pairs: flat edges, bridges and closes, and then flat edges, bridges and
 -- opens.

@@ -1,14 +1,13 @@
 -- Which summaries are wanted (ours): those of goals that some start can lead to.
 use Rattle.std.specs.Prelude.{ℕ, ◌⊎◌, List}
 use Rattle.std.proofs.Common.{inl, inr}
-use Rattle.std.specs.List.{Contains}
 use Rattle.matched_paths.specs.declared.flow_graph.FlowGraph.{FlowGraph}
 use Rattle.matched_paths.specs.declared.flow_graph.Pair.{Pair}
-use Rattle.matched_paths.specs.Edges.{HasFlat, Opens, Closes, IsGoal, IsOut}
-use Rattle.matched_paths.specs.Path.{Path, EachStep}
+use Rattle.matched_paths.specs.Edges.{HasFlat, Opens, Closes, IsGoal}
+use Rattle.matched_paths.specs.Path.{Path, EachStep, IsLedTo}
 use Rattle.matched_paths.specs.Matched.{IsTruePair}
 use Rattle.matched_paths.specs.Folded as folded
-use Rattle.matched_paths.specs.Folded.{FoldedStep, Leads, Folded}
+use Rattle.matched_paths.specs.Folded.{FoldedStep, Folded}
 
 -- An edge of any label leads from a to b.
 pub data HasEdge (flow : FlowGraph) (a b : ℕ) : Type 0 where
@@ -18,7 +17,7 @@ pub data HasEdge (flow : FlowGraph) (a b : ℕ) : Type 0 where
 
 -- Edges of any labels lead from one of the starts to the vertex, none or more.
 abbrev pub IsMet : FlowGraph → List ℕ → ℕ → Type 0
-IsMet flow starts vertex = (start : ℕ) × Contains starts start × Path (HasEdge flow) start vertex
+IsMet flow = IsLedTo (Path (HasEdge flow))
 
 -- A wanted goal: one that is met from the starts.
 pub record IsWanted (flow : FlowGraph) (starts : List ℕ) (vertex : ℕ) : Type 0 where
@@ -29,16 +28,6 @@ pub record IsWanted (flow : FlowGraph) (starts : List ℕ) (vertex : ℕ) : Type
 pub record IsWantedPair (flow : FlowGraph) (starts : List ℕ) (pair : Pair) : Type 0 where
   pub matched : IsTruePair flow pair
   pub wanted : IsWanted flow starts pair.goal
-
--- The pairs hold, for each goal, all outs that flat edges and bridges over these pairs lead to.
-abbrev pub HoldsOuts : FlowGraph → List Pair → Type 0
-HoldsOuts flow pairs = (goal out : ℕ) → IsGoal flow goal → IsOut flow out →
-    Leads flow (Contains pairs) goal out → Contains pairs (record { goal = goal; out = out })
-
--- They do so for each wanted goal.
-abbrev pub HoldsWantedOuts : FlowGraph → List ℕ → List Pair → Type 0
-HoldsWantedOuts flow starts pairs = (goal out : ℕ) → IsWanted flow starts goal → IsOut flow out →
-    Leads flow (Contains pairs) goal out → Contains pairs (record { goal = goal; out = out })
 
 -- The step is no bridge, or the goal of its pair is wanted.
 abbrev pub NeedsWanted : (flow : FlowGraph) (starts : List ℕ) {IsSo : Pair → Type 0} {a b : ℕ} →

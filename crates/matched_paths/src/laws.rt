@@ -4,11 +4,10 @@ ghost use Rattle.std.specs.Prelude.{ℕ, ◌↔◌, List};
 ghost use Rattle.std.specs.List.{All, Contains};
 ghost use Rattle.matched_paths.specs.declared.flow_graph.FlowGraph.{FlowGraph};
 ghost use Rattle.matched_paths.specs.declared.flow_graph.Pair.{Pair};
-ghost use Rattle.matched_paths.specs.Edges.{HasClose, HasOpen};
+ghost use Rattle.matched_paths.specs.Edges.{HasClose, HasOpen, IsGoal};
 ghost use Rattle.matched_paths.specs.Matched.{Flows, IsTruePair, Matched};
-ghost use Rattle.matched_paths.specs.Folded.{Folded, Leads};
-ghost use Rattle.matched_paths.specs.Wanted.{HoldsOuts, HoldsWantedOuts};
-ghost use Rattle.matched_paths.specs.Wanted.{IsWantedPair, NeedsWantedAlone};
+ghost use Rattle.matched_paths.specs.Folded.{Folded, HoldsOutsOf, Leads};
+ghost use Rattle.matched_paths.specs.Wanted.{IsWanted, IsWantedPair, NeedsWantedAlone};
 
 /// Two matched paths one after the other are one.
 pub fn law_concat()
@@ -32,14 +31,14 @@ pub fn law_fold()
 /// its own pairs lead, is the list of all true pairs.
 pub fn law_closed()
     ensures { (flow : FlowGraph) (pairs : List Pair) →
-        All (IsTruePair flow) pairs → HoldsOuts flow pairs →
+        All (IsTruePair flow) pairs → HoldsOutsOf flow (IsGoal flow) pairs →
         (pair : Pair) → Contains pairs pair ↔ IsTruePair flow pair }
 {}
 
 /// The same of the true pairs of wanted goals alone.
 pub fn law_wanted()
     ensures { (flow : FlowGraph) (starts : List ℕ) (pairs : List Pair) →
-        All (IsWantedPair flow starts) pairs → HoldsWantedOuts flow starts pairs →
+        All (IsWantedPair flow starts) pairs → HoldsOutsOf flow (IsWanted flow starts) pairs →
         (pair : Pair) → Contains pairs pair ↔ IsWantedPair flow starts pair }
 {}
 

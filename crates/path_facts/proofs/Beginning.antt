@@ -6,7 +6,9 @@ use Rattle.std.proofs.lemmas.List.{get_or_default}
 use Rattle.std.proofs.lemmas.List.Elements.{All-append, All-contains, All-nil, All-weaker, Contains-get_or}
 use Rattle.matched_paths.specs.declared.flow_graph.FlowGraph.{FlowGraph}
 use Rattle.matched_paths.specs.declared.flow_graph.Crossing.{Crossing}
-use Rattle.matched_paths.specs.Edges.{IsAmong, IsGoal, IsOut, IsWithin}
+use Rattle.matched_paths.specs.Ends.{IsAmong}
+use Rattle.matched_paths.specs.Edges.{IsGoal, IsOut}
+use Rattle.matched_paths.specs.Folded.{HoldsOutsOf}
 use Rattle.matched_paths.specs.Matched as m
 use Rattle.matched_paths.specs.Matched.{IsTruePair, Matched}
 use Rattle.matched_paths.specs.declared.flow_graph.Pair.{Pair}
@@ -14,7 +16,7 @@ use Rattle.flow_index.specs.Vertices.{Meets as MeetsVertex, Vertices}
 use Rattle.flow_index.proofs.Growing.{grows_keeps as vertex_keeps}
 use Rattle.path_facts.specs.declared.pair_set.PairSet.{PairSet}
 use Rattle.path_facts.specs.PairSets.{Grows, IsKept, Meets}
-use Rattle.path_facts.specs.Facts.{Begins, HasGoal, HoldsOutsOf, Tabulates}
+use Rattle.path_facts.specs.Facts.{Begins, HasGoal, Tabulates}
 use Rattle.path_facts.proofs.Growing.{grows_all, grows_keeps}
 use Rattle.path_facts.proofs.Tabulating.{led, tabulates_none}
 
@@ -58,8 +60,8 @@ begin_end count goals facts index end is = record {
 }
 
 -- goals are vertices
-pub goals_below : (flow : FlowGraph) (goals : List ℕ) → IsWithin flow → All (IsGoal flow) goals → All (λ goal. goal < flow.vertices) goals
-goals_below flow goals within are = All-weaker (IsGoal flow) (λ goal. goal < flow.vertices) (λ goal is. (All-contains (IsAmong flow.vertices) flow.opens _ within.opens is.1.1).to) goals are
+pub goals_below : (flow : FlowGraph) (goals : List ℕ) → All (IsGoal flow) goals → All (λ goal. goal < flow.vertices) goals
+goals_below flow goals are = All-weaker (IsGoal flow) (λ goal. goal < flow.vertices) (λ goal is. (All-contains (IsAmong flow.vertices) flow.opens _ flow.within.opens is.1.1).to) goals are
 
 -- All facts are of the goals, each of which leads to itself.
 pub record Saturating (flow : FlowGraph) (goals : List ℕ) (facts bridges : PairSet) (next : ℕ) : Type 0 where
@@ -143,8 +145,8 @@ module _ (flow : FlowGraph) (goals : List ℕ) (facts bridges : PairSet) (next :
         },
       )
 
-  pub pairs_hold : next ≡ length facts.pairs.items → HoldsOutsOf flow goals pairs
-  pairs_hold all goal out has is_out leads =
+  pub pairs_hold : next ≡ length facts.pairs.items → HoldsOutsOf flow (Contains goals) pairs
+  pairs_hold all goal out has led_out =
       let begun : Contains facts.pairs.items (goal, goal) = All-contains (λ (g : ℕ). Contains facts.pairs.items (g, g)) goals goal is.begun has in
-      let fact = led flow facts bridges next all is.tabulates pairs (λ pair stands. subst (λ (xs : List (ℕ × ℕ)). Contains xs (pair.out, pair.goal)) same ((each pair).0 stands).1) goal begun leads in
-      (each (record { goal = goal; out = out })).1 ((are_outs out).1 is_out, subst (λ (xs : List (ℕ × ℕ)). Contains xs (out, goal)) (sym same) fact)
+      let fact = led flow facts bridges next all is.tabulates pairs (λ pair stands. subst (λ (xs : List (ℕ × ℕ)). Contains xs (pair.out, pair.goal)) same ((each pair).0 stands).1) goal begun led_out.leads in
+      (each (record { goal = goal; out = out })).1 ((are_outs out).1 led_out.is_out, subst (λ (xs : List (ℕ × ℕ)). Contains xs (out, goal)) (sym same) fact)

@@ -14,7 +14,7 @@ use Rattle.std.proofs.lemmas.List.Elements.{All-append, All-weaker, All-nil, All
 use Rattle.std.proofs.lemmas.List.Quantifiers.{all_pairs_push}
 use Rattle.std.proofs.lemmas.Map.Lookups.{exact_pairs, exact_unsigned, CmpEqualImpliesEq}
 use Rattle.std.proofs.lemmas.Map.Views.{All-insert_key, btree_set_contains_iff}
-use Rattle.flow_index.specs.Places.{IsLast, IsLastPlace}
+use Rattle.flow_index.specs.Positions.{IsLast, IsLastPosition}
 use Rattle.path_facts.specs.declared.pair_set.PairSet.{PairSet}
 use Rattle.path_facts.specs.PairSets.{Grows, IsKept, Meets, pair_at}
 
@@ -51,9 +51,9 @@ pub grows_all : (IsSo P : ℕ × ℕ → Type 0) (a b : PairSet) → ((pair : �
 grows_all IsSo P a b so grows all =
     subst (λ (xs : List (ℕ × ℕ)). All P xs) (sym grows.grown) (All-append P a.pairs.items grows.more all (All-weaker IsSo P so grows.more grows.new))
 
--- a pair keeps its place
-pub grows_at : (IsSo : ℕ × ℕ → Type 0) (a b : PairSet) (place : ℕ) (d : ℕ × ℕ) → Grows IsSo a b → place < length a.pairs.items → get_or b.pairs.items place d ≡ get_or a.pairs.items place d
-grows_at IsSo a b place d grows within = ap (λ (xs : List (ℕ × ℕ)). get_or xs place d) grows.grown ∙ get_or_append_left a.pairs.items grows.more d place within
+-- a pair keeps its position
+pub grows_at : (IsSo : ℕ × ℕ → Type 0) (a b : PairSet) (position : ℕ) (d : ℕ × ℕ) → Grows IsSo a b → position < length a.pairs.items → get_or b.pairs.items position d ≡ get_or a.pairs.items position d
+grows_at IsSo a b position d grows within = ap (λ (xs : List (ℕ × ℕ)). get_or xs position d) grows.grown ∙ get_or_append_left a.pairs.items grows.more d position within
 
 -- the pairs of a set that begin with a number
 module _ (set : PairSet) (first : ℕ) (kept : IsKept set) where
@@ -114,7 +114,7 @@ module _ (set : PairSet) (pair : ℕ × ℕ) (kept : IsKept set) where
   )
 
   -- no pair begins so
-  pub has_none : IsLastPlace set.by_first.keys pair.0 (length set.by_first.keys) None → ¬ Contains set.pairs.items pair
+  pub has_none : IsLastPosition set.by_first.keys pair.0 (length set.by_first.keys) None → ¬ Contains set.pairs.items pair
   has_none none has = none has.0 (let within = has.1 in omega (arith, len_keys set pair.0 kept)) (key_is set pair.0 kept has.0 has.1 ∙ ap (λ (p : ℕ × ℕ). p.0) (at_pair has))
 
   -- a pair that was met before
@@ -162,7 +162,7 @@ module _ (set : PairSet) (pair : ℕ × ℕ) (kept : IsKept set) where
     }
 
     -- the first that begins so
-    pub meets_first : after.passed ≡ set.passed → IsLastPlace set.by_first.keys pair.0 (length set.by_first.keys) None → Meets set after pair
+    pub meets_first : after.passed ≡ set.passed → IsLastPosition set.by_first.keys pair.0 (length set.by_first.keys) None → Meets set after pair
     meets_first same none = meets_push (rw same kept.passed_stand) (λ q has. rw same has)
         (λ k within begins. absurd (none k (omega (arith, len_keys set pair.0 kept)) (key_is set pair.0 kept k within ∙ begins)))
 

@@ -8,13 +8,13 @@ use Rattle.std.proofs.lemmas.List.Quantifiers.{all_pairs_push}
 use Rattle.matched_paths.specs.declared.flow_graph.Pair.{Pair}
 use Rattle.path_facts.proofs.Tabulating.{pair_of}
 
--- a pair is one of an out and of a fact before the place
+-- a pair is one of an out and of a fact before the position
 pub record IsOf (outs : List ℕ) (facts : List (ℕ × ℕ)) (index : ℕ) (pair : Pair) : Type 0 where
   pub out : Contains outs pair.out
-  pub place : ℕ
-  pub before : place < index
-  pub within : place < length facts
-  pub is : get_or facts place (0, 0) ≡ (pair.out, pair.goal)
+  pub position : ℕ
+  pub before : position < index
+  pub within : position < length facts
+  pub is : get_or facts position (0, 0) ≡ (pair.out, pair.goal)
 
 -- The pairs of the first facts were taken, each once.
 pub record Summing (outs : List ℕ) (facts : List (ℕ × ℕ)) (pairs : List Pair) (index : ℕ) : Type 0 where
@@ -30,7 +30,7 @@ sum_none outs facts pairs empty = record {
 }
 
 of_more : (outs : List ℕ) (facts : List (ℕ × ℕ)) (index : ℕ) (pair : Pair) → IsOf outs facts index pair → IsOf outs facts (index + 1) pair
-of_more outs facts index pair is = record { out = is.out; place = is.place; before = omega (arith, is.before); within = is.within; is = is.is }
+of_more outs facts index pair is = record { out = is.out; position = is.position; before = omega (arith, is.before); within = is.within; is = is.is }
 
 pub sum_skip : (outs : List ℕ) (facts : List (ℕ × ℕ)) (pairs : List Pair) (index : ℕ) (d : ℕ × ℕ) → index < length facts → ¬ Contains outs (get_or facts index d).0 → Summing outs facts pairs index → Summing outs facts pairs (index + 1)
 sum_skip outs facts pairs index d within hasnt is = record {
@@ -51,7 +51,7 @@ sum_one outs facts pairs index d once within has is =
     let same : get_or facts index (0, 0) ≡ fact = get_or_default facts index (0, 0) d within in
     record {
       sound = All-push (IsOf outs facts (index + 1)) pairs (pair_of fact) (All-weaker (IsOf outs facts index) (IsOf outs facts (index + 1)) (of_more outs facts index) pairs is.sound)
-          (record { out = has; place = index; before = omega arith; within = within; is = same });
+          (record { out = has; position = index; before = omega arith; within = within; is = same });
       all = λ k less inside is_out. elim (cases_lt k index) [
         | inl before ↦ Contains-append_left pairs (pair_of fact ∷ []) _ (is.all k before inside is_out)
         | inr not_before ↦
@@ -61,8 +61,8 @@ sum_one outs facts pairs index d once within has is =
       once = all_pairs_push (λ a b. a ≢ b) pairs (pair_of fact) is.once
           (λ k e inside equal.
           let of_pair = is.sound k e inside in
-          let twice : get_or facts of_pair.place (0, 0) ≡ get_or facts index (0, 0) = of_pair.is ∙ (ap (λ (p : Pair). (p.out, p.goal)) equal ∙ sym same) in
-          once of_pair.place index (0, 0) of_pair.before within twice);
+          let twice : get_or facts of_pair.position (0, 0) ≡ get_or facts index (0, 0) = of_pair.is ∙ (ap (λ (p : Pair). (p.out, p.goal)) equal ∙ sym same) in
+          once of_pair.position index (0, 0) of_pair.before within twice);
     }
 
 pub sum_end : (outs : List ℕ) (facts : List (ℕ × ℕ)) (pairs : List Pair) (index : ℕ) → length facts ≤ index → Summing outs facts pairs index → (pair : Pair) →
@@ -70,7 +70,7 @@ pub sum_end : (outs : List ℕ) (facts : List (ℕ × ℕ)) (pairs : List Pair) 
 sum_end outs facts pairs index end is pair = (
   λ has.
       let of_pair = All-contains (IsOf outs facts index) pairs pair is.sound has in
-      (of_pair.out, subst (λ (f : ℕ × ℕ). Contains facts f) of_pair.is (Contains-get_or facts of_pair.place (0, 0) of_pair.within)),
+      (of_pair.out, subst (λ (f : ℕ × ℕ). Contains facts f) of_pair.is (Contains-get_or facts of_pair.position (0, 0) of_pair.within)),
   λ both.
       let at = both.1 in
       let fact : get_or facts at.0 (0, 0) ≡ (pair.out, pair.goal) = get_or_default facts at.0 (0, 0) (pair.out, pair.goal) at.1 ∙ at.2 in

@@ -6,7 +6,8 @@ use Rattle.std.proofs.lemmas.List.{get_or_default}
 use Rattle.std.proofs.lemmas.List.Elements.{All-append, All-contains, All-get_or, All-nil, Contains-append_cases, Contains-get_or}
 use Rattle.matched_paths.specs.declared.flow_graph.FlowGraph.{FlowGraph}
 use Rattle.matched_paths.specs.declared.flow_graph.Pair.{Pair}
-use Rattle.matched_paths.specs.Edges.{HasFlat, IsAmong, IsOut, IsWithin}
+use Rattle.matched_paths.specs.Ends.{IsAmong}
+use Rattle.matched_paths.specs.Edges.{HasFlat, IsOut}
 use Rattle.matched_paths.specs.Path.{none, step}
 use Rattle.matched_paths.specs.Folded as f
 use Rattle.matched_paths.specs.Folded.{FoldedStep, Leads}
@@ -18,17 +19,17 @@ use Rattle.path_facts.specs.PairSets.{Grows, IsKept, Meets, pair_at}
 use Rattle.path_facts.specs.Facts.{HasGoal, Spreads, Tabulates}
 use Rattle.path_facts.proofs.Growing.{grows_all, grows_at, grows_keeps, grows_map, grows_none, grows_then}
 
--- the fact at a place, and where it stands
-pub fact_stands : (facts : PairSet) (place : ℕ) → place < length facts.pairs.items → Contains facts.pairs.items ((pair_at facts place).0, (pair_at facts place).1)
-fact_stands facts place within = Contains-get_or facts.pairs.items place (0, 0) within
+-- the fact at a position, and where it stands
+pub fact_stands : (facts : PairSet) (position : ℕ) → position < length facts.pairs.items → Contains facts.pairs.items ((pair_at facts position).0, (pair_at facts position).1)
+fact_stands facts position within = Contains-get_or facts.pairs.items position (0, 0) within
 
--- the place of a fact
+-- the position of a fact
 pub at_fact : (facts : PairSet) (fact : ℕ × ℕ) (has : Contains facts.pairs.items fact) → pair_at facts has.0 ≡ fact
 at_fact facts fact has = get_or_default facts.pairs.items has.0 (0, 0) fact has.1 ∙ has.2
 
 -- a fact that was read is of a vertex below the count
-pub read_below : (facts : PairSet) (place : ℕ) (fact : ℕ × ℕ) → IsKept facts → place < length facts.pairs.items → fact ≡ get_or facts.pairs.items place fact → fact.0 < facts.by_first.count
-read_below facts place fact kept inside read = subst (λ (f : ℕ × ℕ). f.0 < facts.by_first.count) (sym read) (kept.below place fact inside)
+pub read_below : (facts : PairSet) (position : ℕ) (fact : ℕ × ℕ) → IsKept facts → position < length facts.pairs.items → fact ≡ get_or facts.pairs.items position fact → fact.0 < facts.by_first.count
+read_below facts position fact kept inside read = subst (λ (f : ℕ × ℕ). f.0 < facts.by_first.count) (sym read) (kept.below position fact inside)
 
 -- the pair of a fact
 abbrev pub pair_of : ℕ × ℕ → Pair
@@ -79,11 +80,11 @@ module _ (flow : FlowGraph) where
       }
 
   -- one fact more was followed
-  pub tabulates_followed : (facts bridges : PairSet) (place : ℕ) (spanned : ℕ) → place < length facts.pairs.items →
-      ((to : ℕ) → HasFlat flow (pair_at facts place).0 to → Contains facts.pairs.items (to, (pair_at facts place).1)) →
-      ((to : ℕ) → Contains bridges.pairs.items ((pair_at facts place).0, to) → Contains facts.pairs.items (to, (pair_at facts place).1)) →
-      Tabulates flow facts bridges place spanned → Tabulates flow facts bridges (place + 1) spanned
-  tabulates_followed facts bridges place spanned within flat bridged is = record {
+  pub tabulates_followed : (facts bridges : PairSet) (position : ℕ) (spanned : ℕ) → position < length facts.pairs.items →
+      ((to : ℕ) → HasFlat flow (pair_at facts position).0 to → Contains facts.pairs.items (to, (pair_at facts position).1)) →
+      ((to : ℕ) → Contains bridges.pairs.items ((pair_at facts position).0, to) → Contains facts.pairs.items (to, (pair_at facts position).1)) →
+      Tabulates flow facts bridges position spanned → Tabulates flow facts bridges (position + 1) spanned
+  tabulates_followed facts bridges position spanned within flat bridged is = record {
     facts_kept = is.facts_kept;
     bridges_kept = is.bridges_kept;
     facts_count = is.facts_count;
@@ -93,25 +94,25 @@ module _ (flow : FlowGraph) where
     bridges_matched = is.bridges_matched;
     within = omega arith;
     behind = omega (arith, is.behind);
-    flat = λ k to less edge. elim (cases_lt k place) [
+    flat = λ k to less edge. elim (cases_lt k position) [
       | inl before ↦ is.flat k to before edge
       | inr not_before ↦
-          let here : place ≡ k = omega arith in
+          let here : position ≡ k = omega arith in
           subst (λ (p : ℕ). Contains facts.pairs.items (to, (pair_at facts p).1)) here (flat to (subst (λ (p : ℕ). HasFlat flow (pair_at facts p).0 to) (sym here) edge))
     ];
-    bridged = λ k to less way. elim (cases_lt k place) [
+    bridged = λ k to less way. elim (cases_lt k position) [
       | inl before ↦ is.bridged k to before way
       | inr not_before ↦
-          let here : place ≡ k = omega arith in
+          let here : position ≡ k = omega arith in
           subst (λ (p : ℕ). Contains facts.pairs.items (to, (pair_at facts p).1)) here (bridged to (subst (λ (p : ℕ). Contains bridges.pairs.items ((pair_at facts p).0, to)) (sym here) way))
     ];
     spans = is.spans;
   }
 
   -- over the pair of one fact more all bridges stand
-  pub tabulates_spanned : (facts bridges : PairSet) (followed place : ℕ) → place < followed → ((way : ℕ × ℕ) → BridgesOver flow (pair_of (pair_at facts place)) way → Contains bridges.pairs.items way) →
-      Tabulates flow facts bridges followed place → Tabulates flow facts bridges followed (place + 1)
-  tabulates_spanned facts bridges followed place below all is = record {
+  pub tabulates_spanned : (facts bridges : PairSet) (followed position : ℕ) → position < followed → ((way : ℕ × ℕ) → BridgesOver flow (pair_of (pair_at facts position)) way → Contains bridges.pairs.items way) →
+      Tabulates flow facts bridges followed position → Tabulates flow facts bridges followed (position + 1)
+  tabulates_spanned facts bridges followed position below all is = record {
     facts_kept = is.facts_kept;
     bridges_kept = is.bridges_kept;
     facts_count = is.facts_count;
@@ -123,10 +124,10 @@ module _ (flow : FlowGraph) where
     behind = omega arith;
     flat = is.flat;
     bridged = is.bridged;
-    spans = λ k way less over. elim (cases_lt k place) [
+    spans = λ k way less over. elim (cases_lt k position) [
       | inl before ↦ is.spans k way before over
       | inr not_before ↦
-          let here : k ≡ place = omega arith in
+          let here : k ≡ position = omega arith in
           all way (subst (λ (p : ℕ). BridgesOver flow (pair_of (pair_at facts p)) way) here over)
     ];
   }
@@ -162,12 +163,12 @@ module _ (flow : FlowGraph) where
       }
 
   -- a bridge over the pair of a fact is a matched path between vertices
-  pub over_matched : (facts : PairSet) (place : ℕ) (way : ℕ × ℕ) → place < length facts.pairs.items → All (λ fact. Matched flow fact.1 fact.0) facts.pairs.items → BridgesOver flow (pair_of (pair_at facts place)) way → Matched flow way.0 way.1
-  over_matched facts place way within matched over = m.call over.opened (All-get_or (λ (fact : ℕ × ℕ). Matched flow fact.1 fact.0) facts.pairs.items place (0, 0) within matched) over.closed
+  pub over_matched : (facts : PairSet) (position : ℕ) (way : ℕ × ℕ) → position < length facts.pairs.items → All (λ fact. Matched flow fact.1 fact.0) facts.pairs.items → BridgesOver flow (pair_of (pair_at facts position)) way → Matched flow way.0 way.1
+  over_matched facts position way within matched over = m.call over.opened (All-get_or (λ (fact : ℕ × ℕ). Matched flow fact.1 fact.0) facts.pairs.items position (0, 0) within matched) over.closed
 
-  pub over_among : (pair : Pair) (way : ℕ × ℕ) → IsWithin flow → BridgesOver flow pair way → (way.0 < flow.vertices) × (way.1 < flow.vertices)
-  over_among pair way within over =
-      ((All-contains (IsAmong flow.vertices) flow.opens _ within.opens over.opened).from, (All-contains (IsAmong flow.vertices) flow.closes _ within.closes over.closed).to)
+  pub over_among : (pair : Pair) (way : ℕ × ℕ) → BridgesOver flow pair way → (way.0 < flow.vertices) × (way.1 < flow.vertices)
+  over_among pair way over =
+      ((All-contains (IsAmong flow.vertices) flow.opens _ flow.within.opens over.opened).from, (All-contains (IsAmong flow.vertices) flow.closes _ flow.within.closes over.closed).to)
 
   goal_before : (start now : PairSet) → Grows (λ fact. HasGoal start fact.1) start now → (goal : ℕ) → HasGoal now goal → HasGoal start goal
   goal_before start now grows goal has = elim (Contains-append_cases start.pairs.items grows.more (has.0, goal) (subst (λ (xs : List (ℕ × ℕ)). Contains xs (has.0, goal)) grows.grown has.1)) [
@@ -176,14 +177,14 @@ module _ (flow : FlowGraph) where
   ]
 
   -- The ways are the bridges over the pair of a fact.
-  pub record AreOver (facts : PairSet) (place : ℕ) (ways : List (ℕ × ℕ)) : Type 0 where
-    pub over : All (BridgesOver flow (pair_of (pair_at facts place))) ways
-    pub all : (way : ℕ × ℕ) → BridgesOver flow (pair_of (pair_at facts place)) way → Contains ways way
+  pub record AreOver (facts : PairSet) (position : ℕ) (ways : List (ℕ × ℕ)) : Type 0 where
+    pub over : All (BridgesOver flow (pair_of (pair_at facts position))) ways
+    pub all : (way : ℕ × ℕ) → BridgesOver flow (pair_of (pair_at facts position)) way → Contains ways way
 
-  pub are_over : (facts : PairSet) (place : ℕ) (fact : ℕ × ℕ) (before after ways : List (ℕ × ℕ)) → place < length facts.pairs.items → fact ≡ get_or facts.pairs.items place fact → before ≡ [] → ways ≡ after →
-      AddsAll (BridgesOver flow (pair_of fact)) before after → AreOver facts place ways
-  are_over facts place fact before after ways inside read empty same adds =
-      let own : fact ≡ pair_at facts place = read ∙ get_or_default facts.pairs.items place fact (0, 0) inside in
+  pub are_over : (facts : PairSet) (position : ℕ) (fact : ℕ × ℕ) (before after ways : List (ℕ × ℕ)) → position < length facts.pairs.items → fact ≡ get_or facts.pairs.items position fact → before ≡ [] → ways ≡ after →
+      AddsAll (BridgesOver flow (pair_of fact)) before after → AreOver facts position ways
+  are_over facts position fact before after ways inside read empty same adds =
+      let own : fact ≡ pair_at facts position = read ∙ get_or_default facts.pairs.items position fact (0, 0) inside in
       let over : All (BridgesOver flow (pair_of fact)) ways =
       subst (λ (xs : List (ℕ × ℕ)). All (BridgesOver flow (pair_of fact)) xs) (sym (same ∙ adds.kept)) (All-append (BridgesOver flow (pair_of fact)) before adds.more (rw empty (All-nil (BridgesOver flow (pair_of fact)))) adds.new) in
       record {
@@ -192,39 +193,39 @@ module _ (flow : FlowGraph) where
       }
 
   -- a bridge of the ways ends at vertices
-  pub over_below : (facts : PairSet) (place : ℕ) (ways : List (ℕ × ℕ)) (index : ℕ) → IsWithin flow → index < length ways → AreOver facts place ways → ((get_or ways index (0, 0)).0 < flow.vertices) × ((get_or ways index (0, 0)).1 < flow.vertices)
-  over_below facts place ways index within below are = over_among _ (get_or ways index (0, 0)) within (All-get_or (BridgesOver flow (pair_of (pair_at facts place))) ways index (0, 0) below are.over)
+  pub over_below : (facts : PairSet) (position : ℕ) (ways : List (ℕ × ℕ)) (index : ℕ) → index < length ways → AreOver facts position ways → ((get_or ways index (0, 0)).0 < flow.vertices) × ((get_or ways index (0, 0)).1 < flow.vertices)
+  over_below facts position ways index below are = over_among _ (get_or ways index (0, 0)) (All-get_or (BridgesOver flow (pair_of (pair_at facts position))) ways index (0, 0) below are.over)
 
   -- a fact was followed along flat edges and bridges
-  module _ (facts middle after bridges : PairSet) (place : ℕ) (fact : ℕ × ℕ) (edges ways : List (ℕ × ℕ)) (is : Tabulates flow facts bridges place place) (inside : place < length facts.pairs.items) (read : fact ≡ get_or facts.pairs.items place fact)
+  module _ (facts middle after bridges : PairSet) (position : ℕ) (fact : ℕ × ℕ) (edges ways : List (ℕ × ℕ)) (is : Tabulates flow facts bridges position position) (inside : position < length facts.pairs.items) (read : fact ≡ get_or facts.pairs.items position fact)
       (are_edges : edges ≡ flow.flat) (are_ways : ways ≡ bridges.pairs.items)
       (first : Grows (λ f. Contains edges (fact.0, f.0) × (f.1 ≡ fact.1)) facts middle) (first_all : (to : ℕ) → Contains edges (fact.0, to) → Contains middle.pairs.items (to, fact.1))
       (second : Grows (λ f. Contains ways (fact.0, f.0) × (f.1 ≡ fact.1)) middle after) (second_all : (to : ℕ) → Contains ways (fact.0, to) → Contains after.pairs.items (to, fact.1)) where
-    own : pair_at facts place ≡ fact
-    own = sym (read ∙ get_or_default facts.pairs.items place fact (0, 0) inside)
+    own : pair_at facts position ≡ fact
+    own = sym (read ∙ get_or_default facts.pairs.items position fact (0, 0) inside)
 
     stands : Contains facts.pairs.items (fact.0, fact.1)
-    stands = subst (λ (f : ℕ × ℕ). Contains facts.pairs.items (f.0, f.1)) own (fact_stands facts place inside)
+    stands = subst (λ (f : ℕ × ℕ). Contains facts.pairs.items (f.0, f.1)) own (fact_stands facts position inside)
 
     goal_matched : Matched flow fact.1 fact.0
     goal_matched = All-contains (λ (f : ℕ × ℕ). Matched flow f.1 f.0) facts.pairs.items (fact.0, fact.1) is.matched stands
 
-    middle_is : Tabulates flow middle bridges place place
-    middle_is = tabulates_grows _ facts middle bridges place place
+    middle_is : Tabulates flow middle bridges position position
+    middle_is = tabulates_grows _ facts middle bridges position position
         (λ f so. subst (λ (g : ℕ). Matched flow g f.0) (sym so.1) (m.then goal_matched (m.flat (subst (λ (es : List (ℕ × ℕ)). Contains es (fact.0, f.0)) are_edges so.0)))) first is
 
-    after_is : Tabulates flow after bridges place place
-    after_is = tabulates_grows _ middle after bridges place place
+    after_is : Tabulates flow after bridges position position
+    after_is = tabulates_grows _ middle after bridges position position
         (λ f so. subst (λ (g : ℕ). Matched flow g f.0) (sym so.1) (m.then goal_matched (All-contains (λ (w : ℕ × ℕ). Matched flow w.0 w.1) bridges.pairs.items (fact.0, f.0) is.bridges_matched (subst (λ (es : List (ℕ × ℕ)). Contains es (fact.0, f.0)) are_ways so.0)))) second middle_is
 
-    pub followed_inside : place < length after.pairs.items
+    pub followed_inside : position < length after.pairs.items
     followed_inside = omega (arith, ap length first.grown, ap length second.grown, length-append facts.pairs.items first.more, length-append middle.pairs.items second.more)
 
-    pub followed_at : pair_at after place ≡ fact
-    followed_at = grows_at _ middle after place (0, 0) second (omega (arith, ap length first.grown, length-append facts.pairs.items first.more)) ∙ (grows_at _ facts middle place (0, 0) first inside ∙ own)
+    pub followed_at : pair_at after position ≡ fact
+    followed_at = grows_at _ middle after position (0, 0) second (omega (arith, ap length first.grown, length-append facts.pairs.items first.more)) ∙ (grows_at _ facts middle position (0, 0) first inside ∙ own)
 
-    pub followed_is : Tabulates flow after bridges (place + 1) place
-    followed_is = tabulates_followed after bridges place place followed_inside
+    pub followed_is : Tabulates flow after bridges (position + 1) position
+    followed_is = tabulates_followed after bridges position position followed_inside
         (λ to edge. subst (λ (f : ℕ × ℕ). Contains after.pairs.items (to, f.1)) (sym followed_at)
         (grows_keeps _ middle after _ second (first_all to (subst (λ (es : List (ℕ × ℕ)). Contains es (fact.0, to)) (sym are_edges) (subst (λ (f : ℕ × ℕ). HasFlat flow f.0 to) followed_at edge)))))
         (λ to way. subst (λ (f : ℕ × ℕ). Contains after.pairs.items (to, f.1)) (sym followed_at)
@@ -236,8 +237,8 @@ module _ (flow : FlowGraph) where
         grows_then _ facts middle after (grows_map _ _ facts middle (λ f so. same f so.1) first) (grows_map _ _ middle after (λ f so. same f so.1) second)
 
     -- where no close leaves the vertex nothing more follows
-    pub followed_end : ¬ IsOut flow fact.0 → Tabulates flow after bridges (place + 1) (place + 1)
-    followed_end no_out = tabulates_spanned after bridges (place + 1) place (omega arith)
+    pub followed_end : ¬ IsOut flow fact.0 → Tabulates flow after bridges (position + 1) (position + 1)
+    followed_end no_out = tabulates_spanned after bridges (position + 1) position (omega arith)
         (λ way over. absurd (no_out (subst (λ (f : ℕ × ℕ). IsOut flow f.0) followed_at (way.1, (over.call, over.closed))))) followed_is
 
   -- growth by goals that stand, twice
@@ -245,24 +246,24 @@ module _ (flow : FlowGraph) where
   goals_then facts middle after first second = grows_then _ facts middle after first (grows_map _ _ middle after (λ f has. goal_before facts middle first f.1 has) second)
 
   -- The first bridges over the pair of a fact stand.
-  pub record Crossing (start : PairSet) (place : ℕ) (ways : List (ℕ × ℕ)) (facts bridges : PairSet) (index : ℕ) : Type 0 where
-    pub tabulates : Tabulates flow facts bridges (place + 1) place
+  pub record Crossing (start : PairSet) (position : ℕ) (ways : List (ℕ × ℕ)) (facts bridges : PairSet) (index : ℕ) : Type 0 where
+    pub tabulates : Tabulates flow facts bridges (position + 1) position
     pub grows : Grows (λ fact. HasGoal start fact.1) start facts
     pub added : (k : ℕ) → k < index → k < length ways → Contains bridges.pairs.items (get_or ways k (0, 0))
 
-  pub cross_none : (facts bridges : PairSet) (place : ℕ) (ways : List (ℕ × ℕ)) → Tabulates flow facts bridges (place + 1) place → Crossing facts place ways facts bridges 0
-  cross_none facts bridges place ways is = record { tabulates = is; grows = grows_none _ facts is.facts_kept; added = λ k less inside. absurd (omega arith) }
+  pub cross_none : (facts bridges : PairSet) (position : ℕ) (ways : List (ℕ × ℕ)) → Tabulates flow facts bridges (position + 1) position → Crossing facts position ways facts bridges 0
+  cross_none facts bridges position ways is = record { tabulates = is; grows = grows_none _ facts is.facts_kept; added = λ k less inside. absurd (omega arith) }
 
-  pub cross_more : (start facts after bridges wider : PairSet) (place : ℕ) (ways : List (ℕ × ℕ)) (index : ℕ) (d : ℕ × ℕ) → IsWithin flow → place < length start.pairs.items → index < length ways →
-      All (BridgesOver flow (pair_of (pair_at start place))) ways → Meets bridges wider ((get_or ways index d).0, (get_or ways index d).1) → Spreads (get_or ways index d).0 (get_or ways index d).1 facts after →
-      Crossing start place ways facts bridges index → Crossing start place ways after wider (index + 1)
-  cross_more start facts after bridges wider place ways index d within inside below over meets spreads is =
+  pub cross_more : (start facts after bridges wider : PairSet) (position : ℕ) (ways : List (ℕ × ℕ)) (index : ℕ) (d : ℕ × ℕ) → position < length start.pairs.items → index < length ways →
+      All (BridgesOver flow (pair_of (pair_at start position))) ways → Meets bridges wider ((get_or ways index d).0, (get_or ways index d).1) → Spreads (get_or ways index d).0 (get_or ways index d).1 facts after →
+      Crossing start position ways facts bridges index → Crossing start position ways after wider (index + 1)
+  cross_more start facts after bridges wider position ways index d inside below over meets spreads is =
       let way = get_or ways index d in
-      let same : pair_at facts place ≡ pair_at start place = grows_at _ start facts place (0, 0) is.grows inside in
-      let here : BridgesOver flow (pair_of (pair_at facts place)) way = subst (λ (f : ℕ × ℕ). BridgesOver flow (pair_of f) way) (sym same) (All-get_or (BridgesOver flow (pair_of (pair_at start place))) ways index d below over) in
-      let stays : place < length facts.pairs.items = omega (arith, ap length is.grows.grown, length-append start.pairs.items is.grows.more) in
+      let same : pair_at facts position ≡ pair_at start position = grows_at _ start facts position (0, 0) is.grows inside in
+      let here : BridgesOver flow (pair_of (pair_at facts position)) way = subst (λ (f : ℕ × ℕ). BridgesOver flow (pair_of f) way) (sym same) (All-get_or (BridgesOver flow (pair_of (pair_at start position))) ways index d below over) in
+      let stays : position < length facts.pairs.items = omega (arith, ap length is.grows.grown, length-append start.pairs.items is.grows.more) in
       record {
-        tabulates = tabulates_bridge facts after bridges wider way.0 way.1 (place + 1) place (over_matched facts place way stays is.tabulates.matched here) (over_among _ way within here) meets spreads is.tabulates;
+        tabulates = tabulates_bridge facts after bridges wider way.0 way.1 (position + 1) position (over_matched facts position way stays is.tabulates.matched here) (over_among _ way here) meets spreads is.tabulates;
         grows = grows_then _ start facts after is.grows (grows_map _ _ facts after (λ fact arrives. goal_before start facts is.grows fact.1 (_, arrives.1)) spreads.grows);
         added = λ k less in_ways. elim (cases_lt k index) [
           | inl before ↦ grows_keeps _ bridges wider _ meets.grows (is.added k before in_ways)
@@ -272,11 +273,11 @@ module _ (flow : FlowGraph) where
         ];
       }
 
-  pub cross_end : (start facts bridges : PairSet) (place : ℕ) (ways : List (ℕ × ℕ)) (index : ℕ) → place < length start.pairs.items → length ways ≤ index →
-      ((way : ℕ × ℕ) → BridgesOver flow (pair_of (pair_at start place)) way → Contains ways way) → Crossing start place ways facts bridges index → Tabulates flow facts bridges (place + 1) (place + 1)
-  cross_end start facts bridges place ways index inside all_ways all is =
-      let same : pair_at facts place ≡ pair_at start place = grows_at _ start facts place (0, 0) is.grows inside in
-      tabulates_spanned facts bridges (place + 1) place (omega arith)
+  pub cross_end : (start facts bridges : PairSet) (position : ℕ) (ways : List (ℕ × ℕ)) (index : ℕ) → position < length start.pairs.items → length ways ≤ index →
+      ((way : ℕ × ℕ) → BridgesOver flow (pair_of (pair_at start position)) way → Contains ways way) → Crossing start position ways facts bridges index → Tabulates flow facts bridges (position + 1) (position + 1)
+  cross_end start facts bridges position ways index inside all_ways all is =
+      let same : pair_at facts position ≡ pair_at start position = grows_at _ start facts position (0, 0) is.grows inside in
+      tabulates_spanned facts bridges (position + 1) position (omega arith)
       (λ way over.
       let has = all way (subst (λ (f : ℕ × ℕ). BridgesOver flow (pair_of f) way) same over) in
       subst (λ (w : ℕ × ℕ). Contains bridges.pairs.items w) (get_or_default ways has.0 (0, 0) way has.1 ∙ has.2) (is.added has.0 (omega (arith, has.1)) has.1)) is.tabulates

@@ -2,20 +2,13 @@
 use Rattle.std.specs.Prelude.{ℕ, ◌≡◌, ◌≤◌, ◌<◌, ◌↔◌, List, map, length}
 use Rattle.std.specs.List.{All, Contains}
 use Rattle.matched_paths.specs.declared.flow_graph.FlowGraph.{FlowGraph}
-use Rattle.matched_paths.specs.declared.flow_graph.Pair.{Pair}
 use Rattle.matched_paths.specs.Edges.{HasFlat, IsOut}
-use Rattle.matched_paths.specs.Folded.{Leads}
 use Rattle.matched_paths.specs.Matched.{Matched}
 use Rattle.flow_index.specs.Crossings.{IsIndexOf}
 use Rattle.flow_index.specs.Ways.{AreAmong, BridgesOver}
 use Rattle.path_facts.specs.declared.ground.Ground.{Ground}
 use Rattle.path_facts.specs.declared.pair_set.PairSet.{PairSet}
 use Rattle.path_facts.specs.PairSets.{Grows, IsKept, pair_at}
-
--- The pairs hold, for each of the goals, all outs that flat edges and bridges over them lead to.
-abbrev pub HoldsOutsOf : FlowGraph → List ℕ → List Pair → Type 0
-HoldsOutsOf flow goals pairs = (goal out : ℕ) → Contains goals goal → IsOut flow out →
-    Leads flow (Contains pairs) goal out → Contains pairs (record { goal = goal; out = out })
 
 -- Some fact is of the goal.
 abbrev pub HasGoal : PairSet → ℕ → Type 0

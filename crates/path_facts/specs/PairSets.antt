@@ -18,7 +18,7 @@ pub record IsKept (set : PairSet) : Type 0 where
   pub below : All (λ pair. pair.0 < set.by_first.count) set.pairs.items
   pub keys : set.by_first.keys ≡ map (λ pair. pair.0) set.pairs.items
 
--- The set grows by pairs that are so, and keeps what was met at its place.
+-- The set grows by pairs that are so, and keeps what was met at its position.
 pub record Grows (IsSo : ℕ × ℕ → Type 0) (before after : PairSet) : Type 0 where
   pub kept : IsKept after
   pub count : after.by_first.count ≡ before.by_first.count

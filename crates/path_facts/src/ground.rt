@@ -2,7 +2,7 @@
 
 ghost use Rattle.std.specs.Prelude.{ℕ, ◌≡◌, ◌↔◌, map, IfOk};
 ghost use Rattle.std.specs.List.{Contains};
-ghost use Rattle.matched_paths.specs.Edges.{IsOut, IsWithin};
+ghost use Rattle.matched_paths.specs.Edges.{IsOut};
 ghost use Rattle.path_facts.specs.Facts.{IsGround};
 
 use flow_index::{Chains, CrossingIndex, VertexSet};
@@ -19,7 +19,6 @@ pub(crate) struct Ground {
 
 /// The vertices from which closes leave.
 fn outs(alloc: Global, flow: &FlowGraph) -> Result<VertexSet, AllocError>
-    requires { IsWithin flow.now }
     ensures { IfOk result (λ set. (vertex : ℕ) →
         Contains set.met vertex ↔ IsOut flow.now vertex) }
 {
@@ -32,7 +31,6 @@ fn outs(alloc: Global, flow: &FlowGraph) -> Result<VertexSet, AllocError>
 
 /// The flat edges by where they begin.
 fn flat(alloc: Global, flow: &FlowGraph) -> Result<Chains, AllocError>
-    requires { IsWithin flow.now }
     ensures count { IfOk result (λ chains. chains.count ≡ flow.now.vertices) }
     ensures keys { IfOk result (λ chains. chains.keys ≡ map (λ edge. edge.0) flow.now.flat) }
 {
@@ -43,7 +41,6 @@ fn flat(alloc: Global, flow: &FlowGraph) -> Result<Chains, AllocError>
 
 impl Ground {
     pub(crate) fn of(alloc: Global, flow: &FlowGraph) -> Result<Ground, AllocError>
-        requires { IsWithin flow.now }
         ensures { IfOk result (IsGround flow.now) }
     {
         let flat = flat(alloc, flow)?;

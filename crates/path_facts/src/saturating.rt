@@ -2,9 +2,10 @@
 
 ghost use Rattle.std.specs.Prelude.{ℕ, ◌≡◌, ◌≢◌, ◌↔◌, ◌<◌, IfOk, OnOk};
 ghost use Rattle.std.specs.List.{All, AllPairs, Contains};
-ghost use Rattle.matched_paths.specs.Edges.{IsGoal, IsWithin};
+ghost use Rattle.matched_paths.specs.Edges.{IsGoal};
+ghost use Rattle.matched_paths.specs.Folded.{HoldsOutsOf};
 ghost use Rattle.matched_paths.specs.Matched.{IsTruePair};
-ghost use Rattle.path_facts.specs.Facts.{Begins, HoldsOutsOf};
+ghost use Rattle.path_facts.specs.Facts.{Begins};
 
 use crate::ground::Ground;
 use crate::pair_set::PairSet;
@@ -50,11 +51,10 @@ fn summaries(alloc: Global, outs: &VertexSet, facts: &[(u32, u32)]) -> Result<Ve
 /// pair along the opens to its goal, each with the closes of its call. Looking a fact up takes
 /// logarithmic time.
 pub fn true_pairs(alloc: Global, flow: &FlowGraph, goals: &[u32]) -> Result<Vec<Pair>, AllocError>
-    requires within { IsWithin flow.now }
-    requires goals { All (IsGoal flow.now) goals.now }
+    requires { All (IsGoal flow.now) goals.now }
     ensures sound { IfOk result (λ pairs. All
         (λ pair. Contains goals.now pair.goal × IsTruePair flow.now pair) pairs.items) }
-    ensures holds { IfOk result (λ pairs. HoldsOutsOf flow.now goals.now pairs.items) }
+    ensures holds { IfOk result (λ pairs. HoldsOutsOf flow.now (Contains goals.now) pairs.items) }
     ensures once { IfOk result (λ pairs. AllPairs (λ a b. a ≢ b) pairs.items) }
 {
     let ground = Ground::of(alloc, flow)?;

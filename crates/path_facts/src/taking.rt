@@ -2,7 +2,6 @@
 
 ghost use Rattle.std.specs.Prelude.{ℕ, ◌≡◌, ◌+◌, ◌<◌, length, map, OnOk};
 ghost use Rattle.std.specs.List.{Contains};
-ghost use Rattle.matched_paths.specs.Edges.{IsWithin};
 ghost use Rattle.flow_index.specs.Crossings.{IsIndexOf};
 ghost use Rattle.flow_index.specs.Ways.{AreAmong};
 ghost use Rattle.path_facts.specs.PairSets.{Grows, IsKept};
@@ -32,9 +31,9 @@ fn follow(
         Contains facts.new.pairs.items (to, goal)) }
 {
     let mut next = chains.last(vertex);
-    while let Some(place) = next {
-        facts.meet(ways[place as usize].1, goal)?;
-        next = chains.before(place);
+    while let Some(position) = next {
+        facts.meet(ways[position as usize].1, goal)?;
+        next = chains.before(position);
     }
     Ok(())
 }
@@ -47,10 +46,10 @@ fn spread(from: u32, to: u32, facts: &mut PairSet) -> Result<(), AllocError>
     ensures { OnOk result (Spreads from to facts.old facts.new) }
 {
     let mut next = facts.by_first.last(from);
-    while let Some(place) = next {
-        let goal = facts.pairs[place as usize].1;
+    while let Some(position) = next {
+        let goal = facts.pairs[position as usize].1;
         facts.meet(to, goal)?;
-        next = facts.by_first.before(place);
+        next = facts.by_first.before(position);
     }
     Ok(())
 }
@@ -61,20 +60,19 @@ fn cross(
     alloc: Global,
     flow: &FlowGraph,
     crossings: &CrossingIndex,
-    place: usize,
+    position: usize,
     facts: &mut PairSet,
     bridges: &mut PairSet,
 ) -> Result<(), AllocError>
-    requires within { IsWithin flow.now }
     requires index { IsIndexOf flow.now crossings.now }
-    requires place { place < length facts.old.pairs.items }
-    requires tabulates { Tabulates flow.now facts.old bridges.old (place + 1) place }
+    requires position { position < length facts.old.pairs.items }
+    requires tabulates { Tabulates flow.now facts.old bridges.old (position + 1) position }
     ensures tabulates { OnOk result
-        (Tabulates flow.now facts.new bridges.new (place + 1) (place + 1)) }
+        (Tabulates flow.now facts.new bridges.new (position + 1) (position + 1)) }
     ensures grows { OnOk result
         (Grows (λ fact. HasGoal facts.old fact.1) facts.old facts.new) }
 {
-    let (out, goal) = facts.pairs[place];
+    let (out, goal) = facts.pairs[position];
     let mut ways = Vec::new(alloc);
     crossings.add_over(flow, Pair { goal, out }, &mut ways)?;
     for way in &ways {
@@ -84,25 +82,24 @@ fn cross(
     Ok(())
 }
 
-/// Adds what follows from the fact at the place.
+/// Adds what follows from the fact at the position.
 pub(crate) fn take_up(
     alloc: Global,
     flow: &FlowGraph,
     ground: &Ground,
-    place: usize,
+    position: usize,
     facts: &mut PairSet,
     bridges: &mut PairSet,
 ) -> Result<(), AllocError>
-    requires within { IsWithin flow.now }
     requires ground { IsGround flow.now ground.now }
-    requires place { place < length facts.old.pairs.items }
-    requires tabulates { Tabulates flow.now facts.old bridges.old place place }
+    requires position { position < length facts.old.pairs.items }
+    requires tabulates { Tabulates flow.now facts.old bridges.old position position }
     ensures tabulates { OnOk result
-        (Tabulates flow.now facts.new bridges.new (place + 1) (place + 1)) }
+        (Tabulates flow.now facts.new bridges.new (position + 1) (position + 1)) }
     ensures grows { OnOk result
         (Grows (λ fact. HasGoal facts.old fact.1) facts.old facts.new) }
 {
-    let (vertex, goal) = facts.pairs[place];
+    let (vertex, goal) = facts.pairs[position];
     follow(flow.flat.items(), &ground.flat, vertex, goal, facts)?;
     follow(
         bridges.pairs.as_slice(),
@@ -114,6 +111,6 @@ pub(crate) fn take_up(
     if !ground.outs.has(vertex) {
         return Ok(());
     }
-    cross(alloc, flow, &ground.crossings, place, facts, bridges)?;
+    cross(alloc, flow, &ground.crossings, position, facts, bridges)?;
     Ok(())
 }

@@ -22,41 +22,41 @@ seen_within flow history goal (Some stamp) is = is.seen
 pub all_seen : (board : BoardState) → IsSound board → All (HasSeen board.history) board.tasks
 all_seen board sound = All-weaker (HasSoundStamp board.flow board.history) (HasSeen board.history) (λ task is. seen_within board.flow board.history task.goal task.stamp is) board.tasks sound.stamps
 
-pub first_claims : (board : BoardState) (place : ℕ) (task : Task) → IsSound board → IsFirst board.history board.tasks place → task ≡ get_or board.tasks place task →
-    Claims board task.goal (record board { tasks = set board.tasks place (record task { flies = true }) })
-first_claims board place task sound first at =
+pub first_claims : (board : BoardState) (position : ℕ) (task : Task) → IsSound board → IsFirst board.history board.tasks position → task ≡ get_or board.tasks position task →
+    Claims board task.goal (record board { tasks = set board.tasks position (record task { flies = true }) })
+first_claims board position task sound first at =
     let rise = tasks_rise board.tasks sound.goals.rise in
     record {
-      claimable = record { task = task; stands = (place, first.stands, sym at); of_goal = refl; so = subst (λ (t : Task). IsClaimable board.history t) (sym at) (first.claimable task) };
-      least = λ k d inside less. elim (cases_lt k place) [
+      claimable = record { task = task; stands = (position, first.stands, sym at); of_goal = refl; so = subst (λ (t : Task). IsClaimable board.history t) (sym at) (first.claimable task) };
+      least = λ k d inside less. elim (cases_lt k position) [
         | inl before ↦ first.first k d before
-        | inr not_before ↦ absurd (elim (cases_lt place k) [
-          | inl after ↦ let up = rise place k d after inside in let own = ap (λ (t : Task). t.goal) (at ∙ get_or_default board.tasks place task d first.stands) in omega (arith, up, own, less)
+        | inr not_before ↦ absurd (elim (cases_lt position k) [
+          | inl after ↦ let up = rise position k d after inside in let own = ap (λ (t : Task). t.goal) (at ∙ get_or_default board.tasks position task d first.stands) in omega (arith, up, own, less)
           | inr not_after ↦
-              let here : k ≡ place = omega arith in
-              let own = ap (λ (t : Task). t.goal) (at ∙ get_or_default board.tasks place task d first.stands) in
+              let here : k ≡ position = omega arith in
+              let own = ap (λ (t : Task). t.goal) (at ∙ get_or_default board.tasks position task d first.stands) in
               let same = ap (λ (i : ℕ). (get_or board.tasks i d).goal) here in
               omega (arith, own, same, less)
         ])
       ];
-      changes = ap (λ tasks. record board { tasks = tasks }) (set_changed task.goal (λ t. record t { flies = true }) board.tasks place task rise first.stands at refl);
+      changes = ap (λ tasks. record board { tasks = tasks }) (set_changed task.goal (λ t. record t { flies = true }) board.tasks position task rise first.stands at refl);
     }
 
-pub place_abandons : (board : BoardState) (goal place : ℕ) (task : Task) → IsSound board → Flies board goal → place < length board.tasks → task ≡ get_or board.tasks place task → task.goal ≡ goal →
-    Abandons board goal (record board { tasks = set board.tasks place (record task { flies = false }) })
-place_abandons board goal place task sound flies within at of_goal = record {
+pub position_abandons : (board : BoardState) (goal position : ℕ) (task : Task) → IsSound board → Flies board goal → position < length board.tasks → task ≡ get_or board.tasks position task → task.goal ≡ goal →
+    Abandons board goal (record board { tasks = set board.tasks position (record task { flies = false }) })
+position_abandons board goal position task sound flies within at of_goal = record {
   flies = flies;
-  changes = ap (λ tasks. record board { tasks = tasks }) (set_changed goal (λ t. record t { flies = false }) board.tasks place task (tasks_rise board.tasks sound.goals.rise) within at of_goal);
+  changes = ap (λ tasks. record board { tasks = tasks }) (set_changed goal (λ t. record t { flies = false }) board.tasks position task (tasks_rise board.tasks sound.goals.rise) within at of_goal);
 }
 
 pub claim_kept : (board after : BoardState) (goal : ℕ) → IsKeptBoard board → Claims board goal after → IsKeptBoard after
 claim_kept board after goal kept claims = record {
-  within = rw claims.changes (record { flow = kept.within.flow; starts = kept.within.starts });
+  starts = rw claims.changes kept.starts;
   sound = claim_sound board goal after kept.sound claims;
 }
 
 pub abandon_kept : (board after : BoardState) (goal : ℕ) → IsKeptBoard board → Abandons board goal after → IsKeptBoard after
 abandon_kept board after goal kept abandons = record {
-  within = rw abandons.changes (record { flow = kept.within.flow; starts = kept.within.starts });
+  starts = rw abandons.changes kept.starts;
   sound = abandon_sound board goal after kept.sound abandons;
 }

@@ -6,7 +6,7 @@ use Rattle.std.proofs.lemmas.List.Elements.{All-append, All-weaker, All-contains
 use Rattle.matched_paths.specs.declared.flow_graph.FlowGraph.{FlowGraph}
 use Rattle.matched_paths.specs.declared.flow_graph.Pair.{Pair}
 use Rattle.matched_paths.specs.Folded as f
-use Rattle.matched_paths.specs.Folded.{FoldedStep, Leads}
+use Rattle.matched_paths.specs.Folded.{FoldedStep, Leads, LeadsOut}
 use Rattle.matched_paths.specs.Matched.{IsTruePair}
 use Rattle.matched_paths.specs.Wanted.{IsWanted, IsWantedPair}
 use Rattle.matched_paths.proofs.PathLemmas.{path_map}
@@ -14,7 +14,7 @@ use Rattle.matched_paths.proofs.Folding.{unfolded}
 use Rattle.summary_core.specs.declared.found.Found.{Found}
 use Rattle.summary_core.specs.declared.task.Stamp.{Stamp}
 use Rattle.summary_core.specs.declared.task.Task.{Task}
-use Rattle.summary_core.specs.Searches.{Finds, Asks}
+use Rattle.summary_core.specs.Searches.{Asks}
 use Rattle.summary_core.specs.Board.{BoardState, IsOpening, IsUntouched}
 use Rattle.summary_core.specs.Events.{Flies, Claims, Publishes, Abandons, AreNew, Event, Claim, Publish, Abandon, Makes, Runs}
 use Rattle.summary_core.specs.Sound.{EachOnce, IsStampOf, HasSoundStamp, IsSound}
@@ -30,8 +30,8 @@ leads_map flow P Q same = path_map each
 
 -- what a search over the front finds and asks does not change as the history grows
 finds_same : (flow : FlowGraph) (history more : List Pair) (seen goal out : ℕ) → seen ≤ length history →
-    Finds flow (take seen (history ++ more)) goal out → Finds flow (take seen history) goal out
-finds_same flow history more seen goal out within finds = subst (λ (pairs : List Pair). Finds flow pairs goal out) (take-append-le seen history more within) finds
+    LeadsOut flow (Contains (take seen (history ++ more))) goal out → LeadsOut flow (Contains (take seen history)) goal out
+finds_same flow history more seen goal out within finds = subst (λ (pairs : List Pair). LeadsOut flow (Contains pairs) goal out) (take-append-le seen history more within) finds
 
 asks_same : (flow : FlowGraph) (history more : List Pair) (seen goal asked : ℕ) → seen ≤ length history →
     Asks flow (take seen (history ++ more)) goal asked → Asks flow (take seen history) goal asked
@@ -67,14 +67,14 @@ wanted_flight board sound goal flies =
     ((sound.goals.each flies.task.goal).0 (Contains-map (λ (task : Task). task.goal) board.tasks flies.task flies.stands))
 
 -- what was found over the front is a true pair
-found_true : (board : BoardState) → IsSound board → (goal seen out : ℕ) → IsWanted board.flow board.starts goal → Finds board.flow (take seen board.history) goal out →
+found_true : (board : BoardState) → IsSound board → (goal seen out : ℕ) → IsWanted board.flow board.starts goal → LeadsOut board.flow (Contains (take seen board.history)) goal out →
     IsWantedPair board.flow board.starts (record { goal = goal; out = out })
 found_true board sound goal seen out wanted finds = record {
   matched = record {
     goal = wanted.goal;
     out = finds.is_out;
     matched = unfolded board.flow (leads_map board.flow (Contains (take seen board.history)) (IsTruePair board.flow)
-        (λ pair has. (All-contains (IsWantedPair board.flow board.starts) board.history pair sound.pairs (in_take seen board.history pair has)).matched) finds.met);
+        (λ pair has. (All-contains (IsWantedPair board.flow board.starts) board.history pair sound.pairs (in_take seen board.history pair has)).matched) finds.leads);
   };
   wanted = wanted;
 }

@@ -19,8 +19,8 @@ in_take n xs x has =
     (has.0, omega (arith, has.1, len), rw get_or-take at has.2)
 
 -- what stands before the end of a prefix stands in it
-pub in_front : {X : Type 0} (n : ℕ) (xs : List X) (x : X) (place : ℕ) → place < n → place < length xs → get_or xs place x ≡ x → Contains (take n xs) x
-in_front n xs x place below within is = let len = length-take n xs in (place, omega arith, rw get_or-take is)
+pub in_front : {X : Type 0} (n : ℕ) (xs : List X) (x : X) (position : ℕ) → position < n → position < length xs → get_or xs position x ≡ x → Contains (take n xs) x
+in_front n xs x position below within is = let len = length-take n xs in (position, omega arith, rw get_or-take is)
 
 -- a change that keeps the goals keeps the list of goals
 pub goals-changed : (goal : ℕ) (change : Task → Task) → ((task : Task) → (change task).goal ≡ task.goal) → (tasks : List Task) → goals_of (changed goal change tasks) ≡ goals_of tasks

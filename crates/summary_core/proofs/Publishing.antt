@@ -88,22 +88,22 @@ adding_end before goal outs after index end is = record {
 pub adding_undone : (before : List Pair) (goal : ℕ) (outs : List ℕ) (after : List Pair) (index len : ℕ) → len ≡ length before → Adding before goal outs after index → take len after ≡ before
 adding_undone before goal outs after index len is adding = rw (is, adding.kept) (take-append_seam before adding.new)
 
-pub place_publishes : (board : BoardState) (goal : ℕ) (found : Found) (history : List Pair) (place : ℕ) (task : Task) → IsSound board → Flies board goal → found.seen ≤ length board.history →
-    IsFoundOf board.flow (take found.seen board.history) goal found → AddsNew board.history goal found.outs history → place < length board.tasks → task ≡ get_or board.tasks place task → task.goal ≡ goal →
-    Publishes board goal found (record board { history = history; tasks = set board.tasks place (record task { stamp = Some (record { seen = found.seen; asked = found.asked }); flies = false }) })
-place_publishes board goal found history place task sound flies seen was_found adds within at of_goal = record {
+pub position_publishes : (board : BoardState) (goal : ℕ) (found : Found) (history : List Pair) (position : ℕ) (task : Task) → IsSound board → Flies board goal → found.seen ≤ length board.history →
+    IsFoundOf board.flow (take found.seen board.history) goal found → AddsNew board.history goal found.outs history → position < length board.tasks → task ≡ get_or board.tasks position task → task.goal ≡ goal →
+    Publishes board goal found (record board { history = history; tasks = set board.tasks position (record task { stamp = Some (record { seen = found.seen; asked = found.asked }); flies = false }) })
+position_publishes board goal found history position task sound flies seen was_found adds within at of_goal = record {
   flies = flies;
   seen = seen;
   was_found = was_found;
   new = adds.new;
   are_new = adds.are_new;
-  changes = ap (λ h. record board { history = h; tasks = set board.tasks place (record task { stamp = Some (record { seen = found.seen; asked = found.asked }); flies = false }) }) adds.kept
+  changes = ap (λ h. record board { history = h; tasks = set board.tasks position (record task { stamp = Some (record { seen = found.seen; asked = found.asked }); flies = false }) }) adds.kept
       ∙ ap (λ tasks. record board { history = board.history ++ adds.new; tasks = tasks })
-      (set_changed goal (λ t. record t { stamp = Some (record { seen = found.seen; asked = found.asked }); flies = false }) board.tasks place task (tasks_rise board.tasks sound.goals.rise) within at of_goal);
+      (set_changed goal (λ t. record t { stamp = Some (record { seen = found.seen; asked = found.asked }); flies = false }) board.tasks position task (tasks_rise board.tasks sound.goals.rise) within at of_goal);
 }
 
 pub publish_kept : (board after : BoardState) (goal : ℕ) (found : Found) → IsKeptBoard board → Publishes board goal found after → IsKeptBoard after
 publish_kept board after goal found kept publishes = record {
-  within = rw publishes.changes (record { flow = kept.within.flow; starts = kept.within.starts });
+  starts = rw publishes.changes kept.starts;
   sound = publish_sound board goal found after kept.sound publishes;
 }

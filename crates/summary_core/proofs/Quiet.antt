@@ -7,8 +7,8 @@ use Rattle.matched_paths.specs.declared.flow_graph.FlowGraph.{FlowGraph}
 use Rattle.matched_paths.specs.declared.flow_graph.Pair.{Pair}
 use Rattle.matched_paths.specs.Path.{none, step}
 use Rattle.matched_paths.specs.Folded as f
-use Rattle.matched_paths.specs.Folded.{Leads}
-use Rattle.matched_paths.specs.Wanted.{IsWantedPair, HoldsWantedOuts}
+use Rattle.matched_paths.specs.Folded.{HoldsOutsOf, Leads}
+use Rattle.matched_paths.specs.Wanted.{IsWanted, IsWantedPair}
 use Rattle.matched_paths.proofs.PathLemmas.{path_end}
 use Rattle.matched_paths.proofs.Closing.{held_wanted}
 use Rattle.summary_core.specs.declared.task.Stamp.{Stamp}
@@ -26,7 +26,7 @@ module _ (flow : FlowGraph) (history : List Pair) (goal : ℕ) (stamp : Stamp) (
     | inl below ↦ from_front (path_end front (f.bridge call goal' out opened (in_front stamp.seen history _ has.0 below has.1 has.2) closed)) rest
     | inr later ↦ absurd (fresh (record {
       pair = record { goal = goal'; out = out };
-      place = has.0;
+      position = has.0;
       later = later;
       stands = has.1;
       is = has.2;
@@ -41,13 +41,13 @@ clean_stamp flow history goal None sound clean = absurd (clean tt)
 clean_stamp flow history goal (Some stamp) sound clean = (stamp, sound, clean)
 
 module _ (board : BoardState) (sound : IsSound board) (clean : All (λ task. ¬ IsDirty board.history task) board.tasks) where
-  pub quiet_holds : HoldsWantedOuts board.flow board.starts board.history
-  quiet_holds goal out wanted is_out leads =
+  pub quiet_holds : HoldsOutsOf board.flow (IsWanted board.flow board.starts) board.history
+  quiet_holds goal out wanted led_out =
       let task = Contains-from_map (λ (t : Task). t.goal) board.tasks goal ((sound.goals.each goal).1 wanted) in
       let stamp = clean_stamp board.flow board.history task.0.goal task.0.stamp (All-contains (HasSoundStamp board.flow board.history) board.tasks task.0 sound.stamps task.1) (All-contains (λ (t : Task). ¬ IsDirty board.history t) board.tasks task.0 clean task.1) in
-      let own = subst (λ (g : ℕ). Leads board.flow (Contains board.history) g out) (Rattle.std.proofs.Common.sym task.2) leads in
+      let own = subst (λ (g : ℕ). Leads board.flow (Contains board.history) g out) (Rattle.std.proofs.Common.sym task.2) led_out.leads in
       let met = from_front board.flow board.history task.0.goal stamp.0 stamp.1 stamp.2 none own in
-      subst (λ (g : ℕ). Contains board.history (record { goal = g; out = out })) task.2 (stamp.1.outs out (record { is_out = is_out; met = met }))
+      subst (λ (g : ℕ). Contains board.history (record { goal = g; out = out })) task.2 (stamp.1.outs out (record { is_out = led_out.is_out; leads = met }))
 
   pub quiet_exact : HoldsWanted board.flow board.starts board.history
   quiet_exact = record {

@@ -4,14 +4,14 @@ use Rattle.std.specs.Ordering.{ordering_then}
 use Rattle.std.specs.Cmp.{nat_cmp_is}
 use Rattle.std.specs.declared.cmp.Ordering.TheVariants.{Less, Equal}
 use Rattle.std.specs.Bool.{Decides, one_answer}
-use Rattle.std.specs.List.{AllPairs}
+use Rattle.std.specs.List.{All, AllPairs}
 use Rattle.std.specs.List.Sorted.{IsPermutation}
 use Rattle.std.proofs.lemmas.Bool.{cases_lt, eqb-true}
 use Rattle.std.proofs.lemmas.List.Sorted.{Contains-permutation, IsPermutation-sym}
 use Rattle.std.proofs.lemmas.Map.Made.{AllPairs-from_IsDistinct, IsDistinct-from_AllPairs}
 use Rattle.std.proofs.lemmas.Map.Keys.{IsDistinct-IsPermutation}
 use Rattle.matched_paths.specs.declared.flow_graph.Pair.{Pair}
-use Rattle.summary_core.specs.Board.{BoardState, IsWithinBoard}
+use Rattle.summary_core.specs.Board.{BoardState}
 use Rattle.summary_core.specs.Sound.{EachOnce, HoldsWanted}
 use Rattle.summary_core.specs.Table.{IsClosed, Precedes, by_goal, by_out}
 
@@ -82,15 +82,14 @@ once_sorted : (pairs sorted : List Pair) → IsPermutation pairs sorted → Each
 once_sorted pairs sorted moved once =
     AllPairs-from_IsDistinct same_decides sorted (IsDistinct-IsPermutation same_pair same_flips pairs sorted moved (IsDistinct-from_AllPairs same_decides pairs once))
 
-pub closed_sorted : (board : BoardState) (sorted : List Pair) → IsWithinBoard board → HoldsWanted board.flow board.starts board.history → IsPermutation board.history sorted →
+pub closed_sorted : (board : BoardState) (sorted : List Pair) → All (λ start. start < board.flow.vertices) board.starts → HoldsWanted board.flow board.starts board.history → IsPermutation board.history sorted →
     ((k : ℕ) (d : Pair) → k + 1 < length sorted →
     is_lt (ordering_then (nat_cmp (get_or sorted (k + 1) d).goal (get_or sorted k d).goal) (nat_cmp (get_or sorted (k + 1) d).out (get_or sorted k d).out)) ≡ false) →
     IsClosed (record { flow = board.flow; starts = board.starts; pairs = sorted })
-closed_sorted board sorted within holds moved order =
+closed_sorted board sorted starts holds moved order =
     let once = once_sorted board.history sorted moved holds.once in
     record {
-      within = within.flow;
-      starts_within = within.starts;
+      starts = starts;
       exact = λ pair. (
         λ has. (holds.exact pair).0 (Contains-permutation sorted board.history pair (IsPermutation-sym board.history sorted moved) has),
         λ wanted. Contains-permutation board.history sorted pair moved ((holds.exact pair).1 wanted),

@@ -8,11 +8,12 @@ use Rattle.std.proofs.Math.Seq.{get_or-append_seam}
 use Rattle.std.proofs.lemmas.List.Elements.{All-nil, All-push, All-append, All-weaker, All-contains, Contains-append_left, Contains-append_right, Contains-append_cases, Contains-get_or}
 use Rattle.matched_paths.specs.declared.flow_graph.Crossing.{Crossing}
 use Rattle.matched_paths.specs.declared.flow_graph.FlowGraph.{FlowGraph}
-use Rattle.matched_paths.specs.Edges.{IsAmong, IsGoal, IsWithin}
+use Rattle.matched_paths.specs.Ends.{IsAmong}
+use Rattle.matched_paths.specs.Edges.{IsGoal}
 use Rattle.matched_paths.proofs.PathLemmas.{path_map}
 use Rattle.matched_paths.specs.Wanted as w
 use Rattle.matched_paths.specs.Wanted.{HasEdge, IsMet, IsWanted}
-use Rattle.flow_index.specs.Crossings.{Crosses}
+use Rattle.matched_paths.specs.Edges.{Crosses}
 use Rattle.flow_index.specs.Vertices.{Meets, Vertices}
 use Rattle.flow_index.specs.Ways.{AreAmong, IsReached}
 use Rattle.flow_index.proofs.Growing.{grows_keeps}
@@ -77,19 +78,19 @@ edges_are flow opens closes ways are_opens are_closes is a b = (
     back (w.opens edge) = Contains-append_left (opens ++ closes) flow.flat (a, b) (Contains-append_left opens closes (a, b) ((are_opens a b).1 edge))
     back (w.closes edge) = Contains-append_left (opens ++ closes) flow.flat (a, b) (Contains-append_right opens closes (a, b) ((are_closes a b).1 edge))
 
-edge_among : (flow : FlowGraph) → IsWithin flow → (a b : ℕ) → HasEdge flow a b → (a < flow.vertices) × (b < flow.vertices)
-edge_among flow within a b (w.flat edge) = All-contains (λ (e : ℕ × ℕ). (e.0 < flow.vertices) × (e.1 < flow.vertices)) flow.flat (a, b) within.flat edge
-edge_among flow within a b (w.opens edge) = let is = All-contains (IsAmong flow.vertices) flow.opens _ within.opens edge.1 in (is.from, is.to)
-edge_among flow within a b (w.closes edge) = let is = All-contains (IsAmong flow.vertices) flow.closes _ within.closes edge.1 in (is.from, is.to)
+edge_among : (flow : FlowGraph) → (a b : ℕ) → HasEdge flow a b → (a < flow.vertices) × (b < flow.vertices)
+edge_among flow a b (w.flat edge) = All-contains (λ (e : ℕ × ℕ). (e.0 < flow.vertices) × (e.1 < flow.vertices)) flow.flat (a, b) flow.within.flat edge
+edge_among flow a b (w.opens edge) = let is = All-contains (IsAmong flow.vertices) flow.opens _ flow.within.opens edge.1 in (is.from, is.to)
+edge_among flow a b (w.closes edge) = let is = All-contains (IsAmong flow.vertices) flow.closes _ flow.within.closes edge.1 in (is.from, is.to)
 
-pub edges_among : (flow : FlowGraph) (ways : List (ℕ × ℕ)) → IsWithin flow → ((a b : ℕ) → (Contains ways (a, b) → HasEdge flow a b) × (HasEdge flow a b → Contains ways (a, b))) → AreAmong flow.vertices ways
-edges_among flow ways within are k d inside = let way = get_or ways k d in edge_among flow within way.0 way.1 ((are way.0 way.1).0 (Contains-get_or ways k d inside))
+pub edges_among : (flow : FlowGraph) (ways : List (ℕ × ℕ)) → ((a b : ℕ) → (Contains ways (a, b) → HasEdge flow a b) × (HasEdge flow a b → Contains ways (a, b))) → AreAmong flow.vertices ways
+edges_among flow ways are k d inside = let way = get_or ways k d in edge_among flow way.0 way.1 ((are way.0 way.1).0 (Contains-get_or ways k d inside))
 
 pub met_is : (flow : FlowGraph) (starts : List ℕ) (ways : List (ℕ × ℕ)) → ((a b : ℕ) → (Contains ways (a, b) → HasEdge flow a b) × (HasEdge flow a b → Contains ways (a, b))) → (vertex : ℕ) →
     (IsReached ways starts vertex → IsMet flow starts vertex) × (IsMet flow starts vertex → IsReached ways starts vertex)
 met_is flow starts ways are vertex = (
-  λ reached. (reached.start, reached.among, path_map (λ a b way. (are a b).0 way) reached.path),
-  λ met. record { start = met.0; among = met.1; path = path_map (λ a b edge. (are a b).1 edge) met.2 },
+  λ reached. record { start = reached.start; among = reached.among; leads = path_map (λ a b way. (are a b).0 way) reached.leads },
+  λ met. record { start = met.start; among = met.among; leads = path_map (λ a b edge. (are a b).1 edge) met.leads },
 )
 
 -- The tasks are those of the wanted goals below the vertex.
@@ -151,12 +152,12 @@ tasks_skip flow starts tasks vertex unwanted is = record {
   untouched = is.untouched;
 }
 
-pub tasks_end : (flow : FlowGraph) (starts : List ℕ) (tasks : List Task) (vertex : ℕ) → flow.vertices ≤ vertex → IsWithin flow → TakesUp flow starts tasks vertex → AreWanted flow starts (goals_of tasks)
-tasks_end flow starts tasks vertex all within is = record {
+pub tasks_end : (flow : FlowGraph) (starts : List ℕ) (tasks : List Task) (vertex : ℕ) → flow.vertices ≤ vertex → TakesUp flow starts tasks vertex → AreWanted flow starts (goals_of tasks)
+tasks_end flow starts tasks vertex all is = record {
   each = λ goal. (
     λ has. (All-contains (λ (g : ℕ). (g < vertex) × IsWanted flow starts g) (goals_of tasks) goal is.sound has).1,
     λ wanted.
-        let below = (All-contains (IsAmong flow.vertices) flow.opens _ within.opens wanted.goal.1.1).to in
+        let below = (All-contains (IsAmong flow.vertices) flow.opens _ flow.within.opens wanted.goal.1.1).to in
         is.all goal (omega arith) wanted,
   );
   rise = is.rise;

@@ -18,7 +18,6 @@ use Rattle.std.specs.List.{All, Contains}
 use Rattle.std.specs.List.Sorted.{IsStrictlyIncreasing}
 use Rattle.matched_paths.specs.declared.flow_graph.FlowGraph.{FlowGraph}
 use Rattle.matched_paths.specs.declared.flow_graph.Pair.{Pair}
-use Rattle.matched_paths.specs.Edges.{IsWithin}
 use Rattle.matched_paths.specs.Wanted.{IsWanted}
 use Rattle.summary_core.specs.declared.task.Stamp.{Stamp}
 use Rattle.summary_core.specs.declared.task.Task.{Task}
@@ -43,10 +42,10 @@ pub record AreWanted (flow : FlowGraph) (starts goals : List ℕ) : Type 0 where
 -- A pair at or after the stamp's number begins at a goal that it asked.
 pub record IsStale (history : List Pair) (stamp : Stamp) : Type 0 where
   pub pair : Pair
-  pub place : ℕ
-  pub later : stamp.seen ≤ place
-  pub stands : place < length history
-  pub is : slice_index_or history place pair ≡ pair
+  pub position : ℕ
+  pub later : stamp.seen ≤ position
+  pub stands : position < length history
+  pub is : slice_index_or history position pair ≡ pair
   pub asked : Contains stamp.asked pair.goal
 
 -- A goal is dirty: it has no stamp, or its stamp is stale.
@@ -70,8 +69,3 @@ pub record IsOpening (flow : FlowGraph) (starts : List ℕ) (board : BoardState)
   pub no_pairs : board.history ≡ []
   pub goals : AreWanted flow starts (goals_of board.tasks)
   pub untouched : All IsUntouched board.tasks
-
--- The ends of edges and the starts are vertices.
-pub record IsWithinBoard (board : BoardState) : Type 0 where
-  pub flow : IsWithin board.flow
-  pub starts : All (λ start. start < board.flow.vertices) board.starts

@@ -9,11 +9,11 @@ use Rattle.summary_core.specs.Board.{IsClaimable}
 abbrev pub HasSeen : List Pair → Task → Type 0
 HasSeen history task = MatchOption task.stamp (Unit {0}) (λ stamp. stamp.seen ≤ length history)
 
--- The task at the place is claimable, and none before it is.
-pub record IsFirst (history : List Pair) (tasks : List Task) (place : ℕ) : Type 0 where
-  pub stands : place < length tasks
-  pub claimable : (d : Task) → IsClaimable history (slice_index_or tasks place d)
-  pub first : (k : ℕ) (d : Task) → k < place → ¬ IsClaimable history (slice_index_or tasks k d)
+-- The task at the position is claimable, and none before it is.
+pub record IsFirst (history : List Pair) (tasks : List Task) (position : ℕ) : Type 0 where
+  pub stands : position < length tasks
+  pub claimable : (d : Task) → IsClaimable history (slice_index_or tasks position d)
+  pub first : (k : ℕ) (d : Task) → k < position → ¬ IsClaimable history (slice_index_or tasks k d)
 
 -- The first claimable task, where there is one.
 abbrev pub IsFirstClaimable : List Pair → List Task → Option ℕ → Type 0

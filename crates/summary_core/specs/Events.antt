@@ -35,6 +35,10 @@ pub record HasTask (IsSo : Task → Type 0) (board : BoardState) (goal : ℕ) : 
 abbrev pub Flies : BoardState → ℕ → Type 0
 Flies = HasTask (λ task. task.flies ≡ true)
 
+-- No goal is in flight.
+abbrev pub NoneFlies : BoardState → Type 0
+NoneFlies board = (goal : ℕ) → ¬ Flies board goal
+
 -- The tasks with that of the goal changed.
 abbrev pub changed : ℕ → (Task → Task) → List Task → List Task
 changed goal change tasks = map (λ task. if task.goal == goal then change task else task) tasks

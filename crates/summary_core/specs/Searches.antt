@@ -5,8 +5,8 @@ use Rattle.std.specs.List.Sorted.{IsStrictlyIncreasing}
 use Rattle.matched_paths.specs.declared.flow_graph.Crossing.{Crossing}
 use Rattle.matched_paths.specs.declared.flow_graph.FlowGraph.{FlowGraph}
 use Rattle.matched_paths.specs.declared.flow_graph.Pair.{Pair}
-use Rattle.matched_paths.specs.Edges.{Opens, IsOut}
-use Rattle.matched_paths.specs.Folded.{Leads}
+use Rattle.matched_paths.specs.Edges.{Opens}
+use Rattle.matched_paths.specs.Folded.{Leads, LeadsOut}
 use Rattle.summary_core.specs.declared.found.Found.{Found}
 
 -- The search from the goal meets an open to the asked goal.
@@ -15,16 +15,11 @@ pub record Asks (flow : FlowGraph) (pairs : List Pair) (goal asked : ℕ) : Type
   pub met : Leads flow (Contains pairs) goal vertex
   pub opens : Opens flow vertex asked
 
--- The search from the goal reaches the out.
-pub record Finds (flow : FlowGraph) (pairs : List Pair) (goal out : ℕ) : Type 0 where
-  pub is_out : IsOut flow out
-  pub met : Leads flow (Contains pairs) goal out
-
 -- What is found from the goal over these pairs: the outs that are reached and the goals that are
 -- asked, rising, and how many pairs there are.
 pub record IsFoundOf (flow : FlowGraph) (pairs : List Pair) (goal : ℕ) (found : Found) :
     Type 0 where
-  pub outs : (out : ℕ) → Contains found.outs out ↔ Finds flow pairs goal out
+  pub outs : (out : ℕ) → Contains found.outs out ↔ LeadsOut flow (Contains pairs) goal out
   pub outs_rise : IsStrictlyIncreasing found.outs
   pub asked : (asked : ℕ) → Contains found.asked asked ↔ Asks flow pairs goal asked
   pub asked_rise : IsStrictlyIncreasing found.asked

@@ -1,19 +1,20 @@
 -- Sound boards, and those on which nothing is left to do.
-use Rattle.std.specs.Prelude.{ℕ, ◌≡◌, ◌≢◌, ◌≤◌, ◌↔◌, false, List, take, length, MatchOption}
+use Rattle.std.specs.Prelude.{ℕ, ◌≢◌, ◌<◌, ◌≤◌, ◌↔◌, List, take, length, MatchOption}
 use Rattle.std.specs.List.{All, AllPairs, Contains}
 use Rattle.std.specs.List.Sorted.{IsStrictlyIncreasing}
 use Rattle.matched_paths.specs.declared.flow_graph.FlowGraph.{FlowGraph}
 use Rattle.matched_paths.specs.declared.flow_graph.Pair.{Pair}
+use Rattle.matched_paths.specs.Folded.{LeadsOut}
 use Rattle.matched_paths.specs.Wanted.{IsWantedPair}
 use Rattle.summary_core.specs.declared.task.Stamp.{Stamp}
 use Rattle.summary_core.specs.declared.task.Task.{Task}
-use Rattle.summary_core.specs.Searches.{Asks, Finds}
+use Rattle.summary_core.specs.Searches.{Asks}
+use Rattle.summary_core.specs.Events.{NoneFlies}
 use Rattle.summary_core.specs.Board.{
   BoardState,
   AreWanted,
   goals_of,
   IsDirty,
-  IsWithinBoard,
 }
 
 -- No pair stands twice.
@@ -28,7 +29,7 @@ pub record IsStampOf (flow : FlowGraph) (history : List Pair) (goal : ℕ) (stam
   pub asked : (asked : ℕ) →
       Contains stamp.asked asked ↔ Asks flow (take stamp.seen history) goal asked
   pub asked_rise : IsStrictlyIncreasing stamp.asked
-  pub outs : (out : ℕ) → Finds flow (take stamp.seen history) goal out →
+  pub outs : (out : ℕ) → LeadsOut flow (Contains (take stamp.seen history)) goal out →
       Contains history (record { goal = goal; out = out })
 
 -- The task has no stamp, or one that tells of a search from its goal.
@@ -47,14 +48,14 @@ pub record IsSound (board : BoardState) : Type 0 where
 -- No goal is dirty, and none flies.
 pub record IsQuiet (board : BoardState) : Type 0 where
   pub clean : All (λ task. ¬ IsDirty board.history task) board.tasks
-  pub landed : All (λ task. task.flies ≡ false) board.tasks
+  pub landed : NoneFlies board
 
 -- The list holds exactly the true pairs of wanted goals, each once.
 pub record HoldsWanted (flow : FlowGraph) (starts : List ℕ) (pairs : List Pair) : Type 0 where
   pub exact : (pair : Pair) → Contains pairs pair ↔ IsWantedPair flow starts pair
   pub once : EachOnce pairs
 
--- What is always so of a board that is kept: its ends are vertices, and it is sound.
+-- What is always so of a board: its starts are vertices, and it is sound.
 pub record IsKeptBoard (board : BoardState) : Type 0 where
-  pub within : IsWithinBoard board
+  pub starts : All (λ start. start < board.flow.vertices) board.starts
   pub sound : IsSound board

@@ -4,14 +4,12 @@ ghost use Rattle.std.specs.Prelude.{◌≡◌, ◌<◌, ◌≤◌, ◌↔◌, �
 ghost use Rattle.std.specs.Prelude.{IfOk, IsTrue, List, MatchOption, OnErr, OnOk};
 ghost use Rattle.std.specs.List.{All, Contains};
 ghost use Rattle.matched_paths.specs.declared.flow_graph.Pair.{Pair as PairValue};
-ghost use Rattle.matched_paths.specs.Edges.{IsWithin};
 ghost use Rattle.summary_core.specs.Searches.{IsFoundOf};
 ghost use Rattle.summary_core.specs.Board.{IsClaimable, IsOpening};
-ghost use Rattle.summary_core.specs.Events.{Abandons, Claims, FindsNone, Flies, Publishes};
-ghost use Rattle.summary_core.specs.Sound.{IsSound};
+ghost use Rattle.summary_core.specs.Events.{Abandons, Claims, FindsNone, Flies, NoneFlies, Publishes};
 ghost use Rattle.summary_core.specs.Table.{IsClosed};
 
-use crate::claims::{add_pairs, first_claimable, goals_among, place_of};
+use crate::claims::{add_pairs, first_claimable, goals_among, position_of};
 use crate::closed::Closed;
 use crate::found::{Found, Goal};
 use crate::mirror::Mirror;
@@ -27,12 +25,12 @@ use std::sync::Arc;
 /// The pairs that were published, and what is known of each wanted goal.
 ///
 /// Contracts see a board as the definitions have it: its flow graph and starts, the history of
-/// pairs and the tasks of the wanted goals. A board is sound.
+/// pairs and the tasks of the wanted goals. What is always so of one, `law_kept` says.
 #[derive(Drop)]
 pub struct Board {
     flow: Arc<FlowGraph>,
     starts: ListOf<u32>,
-    history: Vec<Pair>,
+    pub(crate) history: Vec<Pair>,
     tasks: Vec<Task>,
 }
 
@@ -64,8 +62,7 @@ impl Board {
         flow: Arc<FlowGraph>,
         starts: ListOf<u32>,
     ) -> Result<Board, AllocError>
-        requires within { IsWithin flow.value }
-        requires starts { All (λ start. start < flow.value.vertices) starts }
+        requires { All (λ start. start < flow.value.vertices) starts }
         ensures { IfOk result (IsOpening flow.value starts) }
     {
         let tasks = wanted_tasks(alloc, &flow, starts.items())?;
@@ -81,8 +78,8 @@ impl Board {
     pub fn in_flight(&self, goal: Goal) -> bool
         ensures { IsTrue result ↔ Flies self.now goal.vertex }
     {
-        match place_of(&self.tasks, goal.vertex) {
-            Some(place) => self.tasks[place].flies,
+        match position_of(&self.tasks, goal.vertex) {
+            Some(position) => self.tasks[position].flies,
             None => false,
         }
     }
@@ -92,7 +89,6 @@ impl Board {
         requires { mirror.old ≡ take (length mirror.old) self.now.history }
         ensures ok { OnOk result (mirror.new ≡ self.now.history) }
         ensures err { OnErr result (mirror.new ≡ mirror.old) }
-        ensures sound { IsSound self.now }
     {
         let from = mirror.pairs.len();
         mirror.pairs.extend_from_slice(&self.history[from..])
@@ -106,11 +102,11 @@ impl Board {
             (λ goal. Claims self.old goal.vertex self.new) }
     {
         let _ = mirror;
-        let place = match first_claimable(&self.history, &self.tasks) {
-            Some(place) => place,
+        let position = match first_claimable(&self.history, &self.tasks) {
+            Some(position) => position,
             None => return None,
         };
-        let task = &mut self.tasks[place];
+        let task = &mut self.tasks[position];
         task.flies = true;
         Some(Goal { vertex: task.goal })
     }
@@ -126,12 +122,12 @@ impl Board {
         ensures ok { OnOk result (Publishes self.old goal.vertex found self.new) }
         ensures err { OnErr result (self.new ≡ self.old) }
     {
-        let Some(place) = place_of(&self.tasks, goal.vertex) else {
+        let Some(position) = position_of(&self.tasks, goal.vertex) else {
             unreachable!()
         };
         let Found { outs, asked, seen } = found;
         add_pairs(&mut self.history, goal.vertex, outs.items())?;
-        let task = &mut self.tasks[place];
+        let task = &mut self.tasks[position];
         task.stamp = Some(Stamp { seen, asked });
         task.flies = false;
         Ok(())
@@ -142,15 +138,15 @@ impl Board {
         requires { Flies self.old goal.vertex }
         ensures { Abandons self.old goal.vertex self.new }
     {
-        let Some(place) = place_of(&self.tasks, goal.vertex) else {
+        let Some(position) = position_of(&self.tasks, goal.vertex) else {
             unreachable!()
         };
-        self.tasks[place].flies = false;
+        self.tasks[position].flies = false;
     }
 
     /// The closed table: what the wanted goals lead to, by a work list of facts from the goals.
     pub fn finish(self, alloc: Global) -> Result<Closed, AllocError>
-        requires { All (λ task. task.flies ≡ false) self.tasks }
+        requires { NoneFlies self }
         ensures flow { IfOk result (λ closed. closed.flow ≡ self.flow) }
         ensures starts { IfOk result (λ closed. closed.starts ≡ self.starts) }
         ensures closed { IfOk result IsClosed }

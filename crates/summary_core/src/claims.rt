@@ -20,14 +20,14 @@ pub(crate) fn goals_among(alloc: Global, tasks: &[Task]) -> Result<Vec<u32>, All
 }
 
 /// Where the task of the goal stands.
-pub(crate) fn place_of(tasks: &[Task], goal: u32) -> Option<usize>
+pub(crate) fn position_of(tasks: &[Task], goal: u32) -> Option<usize>
     ensures { MatchOption result (All (λ task. ¬ (task.goal ≡ goal)) tasks.now)
-        (λ place. (place < length tasks.now)
-        × ((d : Task) → (slice_index_or tasks.now place d).goal ≡ goal)) }
+        (λ position. (position < length tasks.now)
+        × ((d : Task) → (slice_index_or tasks.now position d).goal ≡ goal)) }
 {
-    for (place, task) in tasks.iter().enumerate() {
+    for (position, task) in tasks.iter().enumerate() {
         if task.goal == goal {
-            return Some(place);
+            return Some(position);
         }
     }
     None
@@ -52,8 +52,8 @@ fn is_stale(history: &[Pair], stamp: &Stamp) -> bool
     requires { stamp.now.seen ≤ length history.now }
     ensures { IsTrue result ↔ IsStale history.now stamp.now }
 {
-    for place in stamp.seen as usize..history.len() {
-        if asks(stamp.asked.items(), history[place].goal) {
+    for position in stamp.seen as usize..history.len() {
+        if asks(stamp.asked.items(), history[position].goal) {
             return true;
         }
     }
@@ -79,9 +79,9 @@ pub(crate) fn first_claimable(history: &[Pair], tasks: &[Task]) -> Option<usize>
     requires { All (HasSeen history.now) tasks.now }
     ensures { IsFirstClaimable history.now tasks.now result }
 {
-    for (place, task) in tasks.iter().enumerate() {
+    for (position, task) in tasks.iter().enumerate() {
         if is_claimable(history, task) {
-            return Some(place);
+            return Some(position);
         }
     }
     None

@@ -18,4 +18,3 @@ pub use found::{Found, Goal};
 pub use matched_paths::Pair;
 pub use mirror::Mirror;
 pub use search::outs;
-pub use task::{Stamp, Task};

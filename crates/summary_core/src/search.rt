@@ -3,7 +3,7 @@
 ghost use Rattle.std.specs.Prelude.{ℕ, ◌≡◌, ◌↔◌, IfOk, OnOk};
 ghost use Rattle.std.specs.List.{Contains};
 ghost use Rattle.std.specs.List.Sorted.{IsStrictlyIncreasing};
-ghost use Rattle.matched_paths.specs.Edges.{IsGoal, IsWithin};
+ghost use Rattle.matched_paths.specs.Edges.{IsGoal};
 ghost use Rattle.summary_core.specs.Searches.{IsEndOf, IsFoundOf};
 
 use crate::found::{Found, Goal};
@@ -64,8 +64,7 @@ pub fn outs(
     mirror: &Mirror,
     goal: Goal,
 ) -> Result<Found, AllocError>
-    requires within { IsWithin flow.now }
-    requires goal { IsGoal flow.now goal.vertex }
+    requires { IsGoal flow.now goal.vertex }
     ensures { IfOk result (IsFoundOf flow.now mirror.now goal.vertex) }
 {
     let pairs = mirror.pairs();

@@ -2,7 +2,7 @@
 
 ghost use Rattle.std.specs.Prelude.{ℕ, ◌≡◌, ◌<◌, ◌↔◌, IfOk, IsTrue};
 ghost use Rattle.std.specs.List.{All, Contains};
-ghost use Rattle.matched_paths.specs.Edges.{IsGoal, IsWithin};
+ghost use Rattle.matched_paths.specs.Edges.{IsGoal};
 ghost use Rattle.matched_paths.specs.Wanted.{HasEdge, IsMet};
 ghost use Rattle.flow_index.specs.Ways.{AreAmong};
 ghost use Rattle.summary_core.specs.Board.{goals_of, AreWanted, IsUntouched};
@@ -14,7 +14,6 @@ use std::alloc::{AllocError, Global};
 
 /// The goals of a flow graph.
 fn goals(alloc: Global, flow: &FlowGraph) -> Result<VertexSet, AllocError>
-    requires { IsWithin flow.now }
     ensures { IfOk result (λ set. (vertex : ℕ) →
         Contains set.met vertex ↔ IsGoal flow.now vertex) }
 {
@@ -27,7 +26,6 @@ fn goals(alloc: Global, flow: &FlowGraph) -> Result<VertexSet, AllocError>
 
 /// All edges, whatever their labels.
 fn edges(alloc: Global, flow: &FlowGraph) -> Result<Vec<(u32, u32)>, AllocError>
-    requires { IsWithin flow.now }
     ensures edges { IfOk result (λ ways. (a b : ℕ) →
         Contains ways.items (a, b) ↔ HasEdge flow.now a b) }
     ensures within { IfOk result (λ ways. AreAmong flow.now.vertices ways.items) }
@@ -41,8 +39,7 @@ fn edges(alloc: Global, flow: &FlowGraph) -> Result<Vec<(u32, u32)>, AllocError>
 
 /// The vertices that the starts lead to along edges of any labels.
 fn met(alloc: Global, flow: &FlowGraph, starts: &[u32]) -> Result<VertexSet, AllocError>
-    requires within { IsWithin flow.now }
-    requires starts { All (λ start. start < flow.now.vertices) starts.now }
+    requires { All (λ start. start < flow.now.vertices) starts.now }
     ensures { IfOk result (λ set. (vertex : ℕ) →
         Contains set.met vertex ↔ IsMet flow.now starts.now vertex) }
 {
@@ -64,8 +61,7 @@ pub(crate) fn wanted_tasks(
     flow: &FlowGraph,
     starts: &[u32],
 ) -> Result<Vec<Task>, AllocError>
-    requires within { IsWithin flow.now }
-    requires starts { All (λ start. start < flow.now.vertices) starts.now }
+    requires { All (λ start. start < flow.now.vertices) starts.now }
     ensures goals { IfOk result (λ tasks. AreWanted flow.now starts.now (goals_of tasks.items)) }
     ensures untouched { IfOk result (λ tasks. All IsUntouched tasks.items) }
 {

@@ -10,14 +10,14 @@ use Rattle.summary_core.specs.declared.task.Task.{Task}
 use Rattle.summary_core.specs.Board.{BoardState}
 use Rattle.summary_core.specs.Events.{Abandons, Claims, Flies, Publishes}
 use Rattle.summary_core.specs.Searches.{IsFoundOf}
-use Rattle.summary_core.specs.Sound.{IsSound}
+use Rattle.summary_core.specs.Sound.{IsKeptBoard}
 use Rattle.summary_core.proofs.Lists.{Contains-map}
 
-pub claimed_goal : (board next : BoardState) (goal : ℕ) → IsSound board → Claims board goal next → IsGoal board.flow goal
-claimed_goal board next goal sound claims =
+pub claimed_goal : (board next : BoardState) (goal : ℕ) → IsKeptBoard board → Claims board goal next → IsGoal board.flow goal
+claimed_goal board next goal kept claims =
     let task = claims.claimable.task in
     subst (λ (g : ℕ). IsGoal board.flow g) claims.claimable.of_goal
-    ((sound.goals.each task.goal).0 (Contains-map (λ (t : Task). t.goal) board.tasks task claims.claimable.stands)).goal
+    ((kept.sound.goals.each task.goal).0 (Contains-map (λ (t : Task). t.goal) board.tasks task claims.claimable.stands)).goal
 
 pub claimed_flies : (board next : BoardState) (goal : ℕ) → Claims board goal next → Flies next goal
 claimed_flies board next goal claims =

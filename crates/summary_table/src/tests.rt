@@ -1,7 +1,6 @@
 //! Flights over a board.
 
 ghost use Rattle.std.specs.Prelude.{◌≡◌, ◌≤◌, [], length, take, IfOk, MatchOption, OnOk};
-ghost use Rattle.matched_paths.specs.Edges.{IsWithin};
 ghost use Rattle.summary_core.specs.Events.{Flies};
 ghost use Rattle.summary_core.specs.Searches.{IsFoundOf};
 
@@ -12,6 +11,7 @@ use std::alloc::{AllocError, Global};
 use std::process::Abort;
 use std::sync::Arc;
 use std::test::Fail;
+use summary_core::laws::law_kept;
 use summary_core::{Board, Found, Goal, Mirror, outs};
 
 /// A goal in flight, and what was found from it.
@@ -22,7 +22,7 @@ struct Flight {
 }
 
 /// A method that calls itself: from 1 and 3 to 2, and back from 2 to 3.
-fn calls_itself(alloc: Global) -> Result<FlowGraph, AllocError> {
+fn calls_itself(alloc: Global) -> Result<FlowGraph, Fail> {
     let mut opens = Vec::new(alloc);
     opens.push(Crossing {
         call: 0,
@@ -35,24 +35,20 @@ fn calls_itself(alloc: Global) -> Result<FlowGraph, AllocError> {
         from: 2,
         to: 3,
     })?;
-    Ok(FlowGraph {
-        vertices: 5,
-        flat: List::of(Vec::from_slice(alloc, &[(1, 2), (3, 2)])?),
-        opens: List::of(opens),
-        closes: List::of(closes),
-    })
+    let flat = Vec::from_slice(alloc, &[(1, 2), (3, 2)])?;
+    let flow = FlowGraph::new(5, List::of(flat), List::of(opens), List::of(closes));
+    Ok(flow.ok_or("an end is no vertex")?)
 }
 
 /// The graph, and its board for the start 1.
 fn opened(alloc: Global) -> Result<(Arc<FlowGraph>, Board), Fail>
-    ensures within { IfOk result (λ both. IsWithin both.0.value) }
     ensures flow { IfOk result (λ both. both.1.flow ≡ both.0.value) }
     ensures history { IfOk result (λ both. both.1.history ≡ []) }
 {
     let flow = calls_itself(alloc)?;
     let starts = List::of(Vec::from_slice(alloc, &[1])?);
     if !may_be_closed(&flow, starts.items()) {
-        return Err(Fail::from("an end is no vertex"));
+        return Err(Fail::from("a start is no vertex"));
     }
     let flow = Arc::new(alloc, flow)?;
     let board = Board::new(alloc, flow.clone()?, starts)?;
@@ -66,7 +62,6 @@ fn take_off(
     board: &mut Board,
     mirror: &mut Mirror,
 ) -> Result<Option<Flight>, AllocError>
-    requires within { IsWithin flow.now }
     requires flow { board.old.flow ≡ flow.now }
     requires front { mirror.old ≡ take (length mirror.old) board.old.history }
     ensures flow { OnOk result (board.new.flow ≡ flow.now) }
@@ -75,6 +70,7 @@ fn take_off(
         Flies board.new f.goal.vertex × (f.found.seen ≤ length board.new.history)
         × IsFoundOf board.new.flow (take f.found.seen board.new.history) f.goal.vertex f.found)) }
 {
+    law_kept(board);
     board.copy_tail(mirror)?;
     let goal = match board.claim(mirror) {
         Some(goal) => goal,
@@ -141,17 +137,23 @@ fn end_flight(
     }
 }
 
-/// The flights from the goal 1, of which each sees so many pairs, and lands or turns back. After
-/// them no goal is dirty, and one pair stands.
-fn fly_all(rt: &impl Abort, alloc: Global, flights: &[(bool, u64)]) -> Result<(), Fail> {
+/// What a flight sees, in pairs, and whether it lands or turns back.
+#[derive(Clone, Copy)]
+struct Plan {
+    lands: bool,
+    seen: u64,
+}
+
+/// The flights from the goal 1. After them no goal is dirty, and one pair stands.
+fn fly_all(rt: &impl Abort, alloc: Global, plans: &[Plan]) -> Result<(), Fail> {
     let (flow, mut board) = opened(alloc)?;
     let mut mirror = Mirror::new(alloc);
-    for plan in flights {
+    for plan in plans {
         let Some(flight) = take_off(alloc, &flow, &mut board, &mut mirror)? else {
             return Err(Fail::from("no goal is dirty"));
         };
-        check(rt, &flight, plan.1);
-        end_flight(&mut board, &mirror, flight, plan.0)?;
+        check(rt, &flight, plan.seen);
+        end_flight(&mut board, &mirror, flight, plan.lands)?;
     }
     let last = take_off(alloc, &flow, &mut board, &mut mirror)?;
     assert!(rt; last.is_none());
@@ -161,13 +163,40 @@ fn fly_all(rt: &impl Abort, alloc: Global, flights: &[(bool, u64)]) -> Result<()
 
 #[test]
 fn a_goal_that_asks_itself_is_searched_twice(rt: HostRuntime) -> Result<(), Fail> {
-    fly_all(&rt, rt.alloc(), &[(true, 0), (true, 1)])
+    let plans = [
+        Plan {
+            lands: true,
+            seen: 0,
+        },
+        Plan {
+            lands: true,
+            seen: 1,
+        },
+    ];
+    fly_all(&rt, rt.alloc(), &plans)
 }
 
 #[test]
 fn every_second_flight_may_turn_back(rt: HostRuntime) -> Result<(), Fail> {
-    let flights = [(false, 0), (true, 0), (false, 1), (true, 1)];
-    fly_all(&rt, rt.alloc(), &flights)
+    let plans = [
+        Plan {
+            lands: false,
+            seen: 0,
+        },
+        Plan {
+            lands: true,
+            seen: 0,
+        },
+        Plan {
+            lands: false,
+            seen: 1,
+        },
+        Plan {
+            lands: true,
+            seen: 1,
+        },
+    ];
+    fly_all(&rt, rt.alloc(), &plans)
 }
 
 #[test]

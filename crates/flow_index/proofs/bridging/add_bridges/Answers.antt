@@ -7,9 +7,9 @@ use Rattle.flow_index.proofs.bridging.add_bridges.Goals as goal
 pub loop-next-preserved : goal.loop-next-preserved
 loop-next-preserved c =
     let flow = c.args.flow.now in
-    let place = c.in-Some.place in
-    let is : get_or c.items.result.now place no_crossing ≡ get_or flow.opens place no_crossing = ap (λ (xs : List Crossing). get_or xs place no_crossing) c.items.ensures in
-    span_step flow c.args.by_goal.now c.args.pair c.args.ways.now.items c.loop-next.ways.items c.add_returns.new.ways.items place no_crossing c.loop-next.next c.before-next.result c.requires.goals c.in-Some.is c.loop-next.invariant c.before-next.ensures
+    let position = c.in-Some.position in
+    let is : get_or c.items.result.now position no_crossing ≡ get_or flow.opens position no_crossing = ap (λ (xs : List Crossing). get_or xs position no_crossing) c.items.ensures in
+    span_step flow c.args.by_goal.now c.args.pair c.args.ways.now.items c.loop-next.ways.items c.add_returns.new.ways.items position no_crossing c.loop-next.next c.before-next.result c.requires.goals c.in-Some.is c.loop-next.invariant c.before-next.ensures
     (subst (λ (x : Crossing). AddsAll (Returns flow x.from x.call c.args.pair.out) c.loop-next.ways.items c.add_returns.new.ways.items) is c.in_ok-add_returns.ensures)
 
 pub returns : goal.returns

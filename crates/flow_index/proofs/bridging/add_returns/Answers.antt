@@ -11,18 +11,18 @@ pub loop-next-preserved : goal.loop-next-preserved
 loop-next-preserved c =
     let flow = c.args.flow.now in
     let ways = c.loop-next.ways.items in
-    let place = c.in-Some.place in
-    let close = get_or flow.closes place no_crossing in
-    let is : get_or c.items.result.now place no_crossing ≡ close = ap (λ (xs : List Crossing). get_or xs place no_crossing) c.items.ensures in
+    let position = c.in-Some.position in
+    let close = get_or flow.closes position no_crossing in
+    let is : get_or c.items.result.now position no_crossing ≡ close = ap (λ (xs : List Crossing). get_or xs position no_crossing) c.items.ensures in
     let test = subst (λ (x : Crossing). (c.closes.result ≡ Rattle.std.proofs.Common.true → (x.call ≡ c.args.call) × (x.from ≡ c.args.out)) × ((x.call ≡ c.args.call) × (x.from ≡ c.args.out) → c.closes.result ≡ Rattle.std.proofs.Common.true)) is c.closes.ensures in
-    let one : (after : List (ℕ × ℕ)) → Adds (Returns flow c.args.from c.args.call c.args.out) ways after → IsReturned flow c.args.by_call.now c.args.from c.args.call c.args.out after place →
+    let one : (after : List (ℕ × ℕ)) → Adds (Returns flow c.args.from c.args.call c.args.out) ways after → IsReturned flow c.args.by_call.now c.args.from c.args.call c.args.out after position →
     Returning flow c.args.by_call.now c.args.from c.args.call c.args.out c.args.ways.now.items after c.before-next.result =
-    λ after adds here. return_step flow c.args.by_call.now c.args.from c.args.call c.args.out c.args.ways.now.items ways after place c.loop-next.next c.before-next.result c.requires c.in-Some.is c.loop-next.invariant c.before-next.ensures adds here in
+    λ after adds here. return_step flow c.args.by_call.now c.args.from c.args.call c.args.out c.args.ways.now.items ways after position c.loop-next.next c.before-next.result c.requires c.in-Some.is c.loop-next.invariant c.before-next.ensures adds here in
     elim c.if-closes.branch [
       | then-closes+in_ok-push w ↦
           let so = test.0 w.if-closes.true in
-          let within : place < length flow.closes = return_within flow c.args.by_call.now c.args.from c.args.call c.args.out c.args.ways.now.items ways place c.loop-next.next c.requires c.in-Some.is c.loop-next.invariant in
-          let stands : Contains flow.closes close = Contains-get_or flow.closes place no_crossing within in
+          let within : position < length flow.closes = return_within flow c.args.by_call.now c.args.from c.args.call c.args.out c.args.ways.now.items ways position c.loop-next.next c.requires c.in-Some.is c.loop-next.invariant in
+          let stands : Contains flow.closes close = Contains-get_or flow.closes position no_crossing within in
           let closed : Contains flow.closes (record { call = c.args.call; from = c.args.out; to = close.to }) =
           subst (λ (n : ℕ). Contains flow.closes (record { call = n; from = c.args.out; to = close.to })) so.0
           (subst (λ (f : ℕ). Contains flow.closes (record { call = close.call; from = f; to = close.to })) so.1 stands) in

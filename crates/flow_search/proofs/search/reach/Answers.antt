@@ -1,6 +1,6 @@
-use Rattle.std.proofs.Common.{◌≡◌, ◌<◌, ℕ, List, length, get_or, ap, sym, ◌∙◌, subst, arith}
-use Rattle.std.specs.List.{All, Contains}
-use Rattle.std.proofs.lemmas.List.Elements.{All-contains, Contains-get_or}
+use Rattle.std.proofs.Common.{◌≡◌, ◌<◌, ℕ, List, get_or, ap, sym, ◌∙◌, subst}
+use Rattle.std.specs.List.{Contains}
+use Rattle.std.proofs.lemmas.List.Elements.{All-contains}
 use Rattle.matched_paths.specs.declared.flow_graph.Crossing.{Crossing}
 use Rattle.matched_paths.specs.declared.flow_graph.FlowGraph.{FlowGraph}
 use Rattle.matched_paths.specs.declared.flow_graph.Pair.{Pair}
@@ -8,32 +8,27 @@ use Rattle.flow_index.specs.Ways.{AreAmong, AreSteps, IsReached}
 use Rattle.flow_search.proofs.Turning.{AreBoth, both_among, turns_flow}
 use Rattle.flow_search.proofs.search.reach.Goals as goal
 
-abbrev Are : List (ℕ × ℕ) → List (ℕ × ℕ) → List Crossing → Type 0
-Are ways steps crossings = AreBoth ways steps crossings
-
 pub reached-requires-clause-ways : goal.reached-requires-clause-ways
 reached-requires-clause-ways c =
     let flow = c.flow-flow.result.now in
-    let within : Rattle.matched_paths.specs.Edges.IsWithin flow = subst Rattle.matched_paths.specs.Edges.IsWithin (sym c.flow-flow.ensures.flow) c.flow-flow.ensures.closed.within in
     let both : AreBoth c.in_ok-out.out.items c.in_ok-steps.steps.items flow.closes =
     subst (λ (xs : List Crossing). AreBoth c.in_ok-out.out.items c.in_ok-steps.steps.items xs) c.items.ensures
     (subst (λ (ss : List (ℕ × ℕ)). AreBoth c.in_ok-out.out.items ss c.items.result.now) c.deref.ensures.value c.in_ok-out.ensures) in
-    subst (λ (ws : List (ℕ × ℕ)). AreAmong flow.vertices ws) (sym c.deref-2.ensures.value) (both_among flow.vertices c.in_ok-out.out.items c.in_ok-steps.steps.items flow.closes both c.in_ok-steps.ensures.within within.closes)
+    subst (λ (ws : List (ℕ × ℕ)). AreAmong flow.vertices ws) (sym c.deref-2.ensures.value) (both_among flow.vertices c.in_ok-out.out.items c.in_ok-steps.steps.items flow.closes both c.in_ok-steps.ensures.within flow.within.closes)
 
 pub reached-requires-clause-starts : goal.reached-requires-clause-starts
 reached-requires-clause-starts c k d inside =
     let is = c.flow-flow.ensures.closed in
     subst (λ (f : FlowGraph). get_or c.args.starts.now k d < f.vertices) (sym c.flow-flow.ensures.flow)
-    (All-contains (λ (s : ℕ). s < c.args.closed.now.flow.vertices) c.args.closed.now.starts _ is.starts_within (c.requires k d inside))
+    (All-contains (λ (s : ℕ). s < c.args.closed.now.flow.vertices) c.args.closed.now.starts _ is.starts (c.requires k d inside))
 
 pub reached-requires-2-clause-ways : goal.reached-requires-2-clause-ways
 reached-requires-2-clause-ways c =
     let flow = c.flow-flow.result.now in
-    let within : Rattle.matched_paths.specs.Edges.IsWithin flow = subst Rattle.matched_paths.specs.Edges.IsWithin (sym c.flow-flow.ensures.flow) c.flow-flow.ensures.closed.within in
     let both : AreBoth c.in_ok-into.into.items c.in_ok-steps.steps.items flow.opens =
     subst (λ (xs : List Crossing). AreBoth c.in_ok-into.into.items c.in_ok-steps.steps.items xs) c.items-2.ensures
     (subst (λ (ss : List (ℕ × ℕ)). AreBoth c.in_ok-into.into.items ss c.items-2.result.now) c.deref-3.ensures.value c.in_ok-into.ensures) in
-    subst (λ (ws : List (ℕ × ℕ)). AreAmong flow.vertices ws) (sym c.deref-4.ensures.value) (both_among flow.vertices c.in_ok-into.into.items c.in_ok-steps.steps.items flow.opens both c.in_ok-steps.ensures.within within.opens)
+    subst (λ (ws : List (ℕ × ℕ)). AreAmong flow.vertices ws) (sym c.deref-4.ensures.value) (both_among flow.vertices c.in_ok-into.into.items c.in_ok-steps.steps.items flow.opens both c.in_ok-steps.ensures.within flow.within.opens)
 
 pub returns : goal.returns
 returns c vertex =

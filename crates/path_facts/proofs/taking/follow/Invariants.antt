@@ -1,4 +1,4 @@
-use Rattle.flow_index.proofs.Walking.{places_left}
+use Rattle.flow_index.proofs.Walking.{positions_left}
 use Rattle.path_facts.proofs.Following.{Follows}
 use Rattle.path_facts.proofs.taking.follow.Given as goal
 
@@ -6,4 +6,4 @@ abbrev pub invariant-loop-next : goal.invariant-loop-next
 invariant-loop-next l = Follows l.ways l.vertex l.goal l.fn.facts l.facts l.next
 
 abbrev pub decreases-loop-next : goal.decreases-loop-next
-decreases-loop-next l = places_left l.next
+decreases-loop-next l = positions_left l.next

@@ -8,7 +8,7 @@ loop-next-init c = spread_begin c.args.from c.args.to c.args.facts.now c.last-ne
 
 pub index-requires : goal.index-requires
 index-requires c =
-    let within = (spread_within c.args.from c.args.to c.args.facts.now c.loop-next.facts c.loop-next.next c.in-Some.place c.in-Some.is c.loop-next.invariant).0 in
+    let within = (spread_within c.args.from c.args.to c.args.facts.now c.loop-next.facts c.loop-next.next c.in-Some.position c.in-Some.is c.loop-next.invariant).0 in
     grind (arith, common_steps, within)
 
 pub meet-requires-clause-kept : goal.meet-requires-clause-kept
@@ -22,7 +22,7 @@ meet-requires-clause-below c =
 
 pub loop-next-preserved : goal.loop-next-preserved
 loop-next-preserved c =
-    spread_step c.args.from c.args.to c.args.facts.now c.loop-next.facts c.meet.new.self c.in-Some.place c.index.result.now c.loop-next.next c.before-next.result c.in-Some.is c.loop-next.invariant c.index.ensures c.in_ok-meet.ensures c.before-next.ensures
+    spread_step c.args.from c.args.to c.args.facts.now c.loop-next.facts c.meet.new.self c.in-Some.position c.index.result.now c.loop-next.next c.before-next.result c.in-Some.is c.loop-next.invariant c.index.ensures c.in_ok-meet.ensures c.before-next.ensures
 
 pub returns : goal.returns
 returns c = spread_end c.args.from c.args.to c.args.facts.now c.loop-next.facts c.loop-next.next c.in_default.is c.loop-next.invariant

@@ -4,11 +4,11 @@ use Rattle.path_facts.proofs.Tabulating.{read_below, followed_inside, followed_i
 use Rattle.path_facts.proofs.taking.take_up.Goals as goal
 
 pub follow-requires-clause-ways : goal.follow-requires-clause-ways
-follow-requires-clause-ways c = rw (c.items.ensures, c.requires.tabulates.facts_count) c.requires.within.flat
+follow-requires-clause-ways c = rw (c.items.ensures, c.requires.tabulates.facts_count) c.args.flow.now.within.flat
 
 pub follow-requires-clause-vertex : goal.follow-requires-clause-vertex
 follow-requires-clause-vertex c =
-    let below = read_below c.args.facts.now c.args.place c.index.result.now c.requires.tabulates.facts_kept c.requires.place c.index.ensures in
+    let below = read_below c.args.facts.now c.args.position c.index.result.now c.requires.tabulates.facts_kept c.requires.position c.index.ensures in
     let count = c.requires.tabulates.facts_count in
     let flat = c.requires.ground.count in
     omega arith
@@ -27,7 +27,7 @@ follow-requires-2-clause-keys c = c.requires.tabulates.bridges_kept.keys ∙ ap 
 
 pub follow-requires-2-clause-vertex : goal.follow-requires-2-clause-vertex
 follow-requires-2-clause-vertex c =
-    let below = read_below c.args.facts.now c.args.place c.index.result.now c.requires.tabulates.facts_kept c.requires.place c.index.ensures in
+    let below = read_below c.args.facts.now c.args.position c.index.result.now c.requires.tabulates.facts_kept c.requires.position c.index.ensures in
     let count = c.requires.tabulates.facts_count in
     let bridges = c.requires.tabulates.bridges_count in
     omega arith
@@ -35,21 +35,21 @@ follow-requires-2-clause-vertex c =
 pub cross-requires-clause-index : goal.cross-requires-clause-index
 cross-requires-clause-index c = c.requires.ground.crossings
 
-pub cross-requires-clause-place : goal.cross-requires-clause-place
-cross-requires-clause-place c = followed_inside c.args.flow.now c.args.facts.now c.follow.new.facts c.follow-2.new.facts c.args.bridges.now c.args.place c.index.result.now c.items.result.now c.as_slice.result.now c.requires.tabulates c.requires.place c.index.ensures c.items.ensures c.as_slice.ensures.value c.in_ok-follow.ensures.grows c.in_ok-follow.ensures.all c.in_ok-follow-2.ensures.grows c.in_ok-follow-2.ensures.all
+pub cross-requires-clause-position : goal.cross-requires-clause-position
+cross-requires-clause-position c = followed_inside c.args.flow.now c.args.facts.now c.follow.new.facts c.follow-2.new.facts c.args.bridges.now c.args.position c.index.result.now c.items.result.now c.as_slice.result.now c.requires.tabulates c.requires.position c.index.ensures c.items.ensures c.as_slice.ensures.value c.in_ok-follow.ensures.grows c.in_ok-follow.ensures.all c.in_ok-follow-2.ensures.grows c.in_ok-follow-2.ensures.all
 
 pub cross-requires-clause-tabulates : goal.cross-requires-clause-tabulates
-cross-requires-clause-tabulates c = followed_is c.args.flow.now c.args.facts.now c.follow.new.facts c.follow-2.new.facts c.args.bridges.now c.args.place c.index.result.now c.items.result.now c.as_slice.result.now c.requires.tabulates c.requires.place c.index.ensures c.items.ensures c.as_slice.ensures.value c.in_ok-follow.ensures.grows c.in_ok-follow.ensures.all c.in_ok-follow-2.ensures.grows c.in_ok-follow-2.ensures.all
+cross-requires-clause-tabulates c = followed_is c.args.flow.now c.args.facts.now c.follow.new.facts c.follow-2.new.facts c.args.bridges.now c.args.position c.index.result.now c.items.result.now c.as_slice.result.now c.requires.tabulates c.requires.position c.index.ensures c.items.ensures c.as_slice.ensures.value c.in_ok-follow.ensures.grows c.in_ok-follow.ensures.all c.in_ok-follow-2.ensures.grows c.in_ok-follow-2.ensures.all
 
 pub returns-then-not-has-clause-tabulates : goal.returns-then-not-has-clause-tabulates
 returns-then-not-has-clause-tabulates c =
     let no_out : ¬ IsOut c.args.flow.now c.index.result.now.0 = λ out. let on = c.has.ensures.1 ((c.requires.ground.outs c.index.result.now.0).1 out) in let off = c.if-not-has.true in cc in
-    followed_end c.args.flow.now c.args.facts.now c.follow.new.facts c.follow-2.new.facts c.args.bridges.now c.args.place c.index.result.now c.items.result.now c.as_slice.result.now c.requires.tabulates c.requires.place c.index.ensures c.items.ensures c.as_slice.ensures.value c.in_ok-follow.ensures.grows c.in_ok-follow.ensures.all c.in_ok-follow-2.ensures.grows c.in_ok-follow-2.ensures.all no_out
+    followed_end c.args.flow.now c.args.facts.now c.follow.new.facts c.follow-2.new.facts c.args.bridges.now c.args.position c.index.result.now c.items.result.now c.as_slice.result.now c.requires.tabulates c.requires.position c.index.ensures c.items.ensures c.as_slice.ensures.value c.in_ok-follow.ensures.grows c.in_ok-follow.ensures.all c.in_ok-follow-2.ensures.grows c.in_ok-follow-2.ensures.all no_out
 
 pub returns-then-not-has-clause-grows : goal.returns-then-not-has-clause-grows
-returns-then-not-has-clause-grows c = followed_grows c.args.flow.now c.args.facts.now c.follow.new.facts c.follow-2.new.facts c.args.bridges.now c.args.place c.index.result.now c.items.result.now c.as_slice.result.now c.requires.tabulates c.requires.place c.index.ensures c.items.ensures c.as_slice.ensures.value c.in_ok-follow.ensures.grows c.in_ok-follow.ensures.all c.in_ok-follow-2.ensures.grows c.in_ok-follow-2.ensures.all
+returns-then-not-has-clause-grows c = followed_grows c.args.flow.now c.args.facts.now c.follow.new.facts c.follow-2.new.facts c.args.bridges.now c.args.position c.index.result.now c.items.result.now c.as_slice.result.now c.requires.tabulates c.requires.position c.index.ensures c.items.ensures c.as_slice.ensures.value c.in_ok-follow.ensures.grows c.in_ok-follow.ensures.all c.in_ok-follow-2.ensures.grows c.in_ok-follow-2.ensures.all
 
 pub returns-clause-grows : goal.returns-clause-grows
 returns-clause-grows c =
     goals_then c.args.flow.now c.args.facts.now c.follow-2.new.facts c.cross.new.facts
-    (followed_grows c.args.flow.now c.args.facts.now c.follow.new.facts c.follow-2.new.facts c.args.bridges.now c.args.place c.index.result.now c.items.result.now c.as_slice.result.now c.requires.tabulates c.requires.place c.index.ensures c.items.ensures c.as_slice.ensures.value c.in_ok-follow.ensures.grows c.in_ok-follow.ensures.all c.in_ok-follow-2.ensures.grows c.in_ok-follow-2.ensures.all) c.in_ok-cross.ensures.grows
+    (followed_grows c.args.flow.now c.args.facts.now c.follow.new.facts c.follow-2.new.facts c.args.bridges.now c.args.position c.index.result.now c.items.result.now c.as_slice.result.now c.requires.tabulates c.requires.position c.index.ensures c.items.ensures c.as_slice.ensures.value c.in_ok-follow.ensures.grows c.in_ok-follow.ensures.all c.in_ok-follow-2.ensures.grows c.in_ok-follow-2.ensures.all) c.in_ok-cross.ensures.grows

@@ -1,7 +1,7 @@
 use Rattle.std.proofs.Common.{◌++◌, ℕ, List, ap, ◌∙◌, subst}
 use Rattle.std.specs.List.{Contains}
 use Rattle.matched_paths.specs.declared.flow_graph.Crossing.{Crossing}
-use Rattle.flow_index.specs.Crossings.{Crosses}
+use Rattle.matched_paths.specs.Edges.{Crosses}
 use Rattle.summary_core.proofs.Wanting.{edges_are, edges_among}
 use Rattle.summary_core.proofs.wanted.edges.Goals as goal
 
@@ -20,4 +20,4 @@ returns-clause-edges c =
     ∙ ap (λ (xs : List (ℕ × ℕ)). xs ++ c.args.flow.now.flat) (c.in_ok-extend_from_slice.ensures.items ∙ ap (λ (xs : List (ℕ × ℕ)). opens ++ xs) c.deref.ensures.value)))
 
 pub returns-clause-within : goal.returns-clause-within
-returns-clause-within c = edges_among c.args.flow.now c.extend_from_slice-2.new.self.items c.requires (returns-clause-edges c)
+returns-clause-within c = edges_among c.args.flow.now c.extend_from_slice-2.new.self.items (returns-clause-edges c)

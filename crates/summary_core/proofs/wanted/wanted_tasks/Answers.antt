@@ -18,4 +18,4 @@ loop-vertex-preserved c =
     ]
 
 pub returns-clause-goals : goal.returns-clause-goals
-returns-clause-goals c = tasks_end c.args.flow.now c.args.starts.now c.loop-vertex.tasks.items c.loop-vertex.vertex c.loop-vertex-test.false c.requires.within c.loop-vertex.invariant
+returns-clause-goals c = tasks_end c.args.flow.now c.args.starts.now c.loop-vertex.tasks.items c.loop-vertex.vertex c.loop-vertex-test.false c.loop-vertex.invariant

@@ -4,9 +4,9 @@ use Rattle.matched_paths.specs.Edges.{IsGoal}
 use Rattle.summary_table.proofs.Flights.{claimed_goal, claimed_flies, found_front}
 use Rattle.summary_table.proofs.tests.take_off.Goals as goal
 
-pub outs-requires-clause-goal : goal.outs-requires-clause-goal
-outs-requires-clause-goal c =
-    subst (λ (f : FlowGraph). IsGoal f c.in-Some.goal.vertex) c.requires.flow (claimed_goal c.args.board.now c.claim.new.self c.in-Some.goal.vertex c.in_ok-copy_tail.ensures.sound c.in-Some.ensures)
+pub outs-requires : goal.outs-requires
+outs-requires c =
+    subst (λ (f : FlowGraph). IsGoal f c.in-Some.goal.vertex) c.requires.flow (claimed_goal c.args.board.now c.claim.new.self c.in-Some.goal.vertex c.law_kept.ensures c.in-Some.ensures)
 
 pub returns-clause-flight : goal.returns-clause-flight
 returns-clause-flight c =

@@ -1,7 +1,7 @@
 use Rattle.std.proofs.Common.{ℕ, ◌∷◌, [], ◌++◌, length, true, Option, ap, sym, ◌∙◌, subst}
 use Rattle.std.specs.List.{Contains}
 use Rattle.std.specs.BTreeSet as sorted
-use Rattle.flow_index.specs.Places.{IsLastPlace}
+use Rattle.flow_index.specs.Positions.{IsLastPosition}
 use Rattle.path_facts.specs.declared.pair_set.PairSet.{PairSet}
 use Rattle.path_facts.proofs.Growing.{meets_first, meets_further, meets_known, pair_cmp}
 use Rattle.path_facts.proofs.pair_set.PairSet.meet.Goals as goal
@@ -17,7 +17,7 @@ returns c =
     let fresh : ¬ Contains set.pairs.items pair = λ has. let on = c.has.ensures.1 has in let off = c.if-has.false in cc in
     elim c.match-last.branch [
       | in-Some+in_ok-insert w ↦
-          let last = subst (λ (found : Option ℕ). IsLastPlace set.by_first.keys c.args.first (length set.by_first.keys) found) w.in-Some.is c.last.ensures in
+          let last = subst (λ (found : Option ℕ). IsLastPosition set.by_first.keys c.args.first (length set.by_first.keys) found) w.in-Some.is c.last.ensures in
           meets_further set pair c.requires.kept _ fresh
           (c.in_ok-push.ensures.items ∙ ap (λ (s : PairSet). s.pairs.items ++ pair ∷ []) w.self-is) c.requires.below
           (c.push-2.ensures.count ∙ ap (λ (s : PairSet). s.by_first.count) w.self-is)
@@ -26,7 +26,7 @@ returns c =
           (ap (λ (s : PairSet). s.passed.keys) w.self-is ∙ w.in_ok-insert.ensures.keys)
           (subst (λ (s : PairSet). sorted.Updates pair_cmp set.passed s.passed w.index.result.now true) (sym w.self-is) w.in_ok-insert.ensures.updates)
       | in_default w ↦
-          let none = subst (λ (found : Option ℕ). IsLastPlace set.by_first.keys c.args.first (length set.by_first.keys) found) w.in_default.is c.last.ensures in
+          let none = subst (λ (found : Option ℕ). IsLastPosition set.by_first.keys c.args.first (length set.by_first.keys) found) w.in_default.is c.last.ensures in
           meets_first set pair c.requires.kept _ fresh
           (c.in_ok-push.ensures.items ∙ ap (λ (s : PairSet). s.pairs.items ++ pair ∷ []) w.self-is) c.requires.below
           (c.push-2.ensures.count ∙ ap (λ (s : PairSet). s.by_first.count) w.self-is)

@@ -2,25 +2,25 @@ use Rattle.std.proofs.Common.{◌≡◌, ◌<◌, List, length, get_or, ap, sym,
 use Rattle.summary_core.specs.declared.task.Task.{Task}
 use Rattle.summary_core.specs.Board.{BoardState}
 use Rattle.summary_core.specs.Events.{Flies}
-use Rattle.summary_core.proofs.Claiming.{abandon_kept, place_abandons}
+use Rattle.summary_core.proofs.Claiming.{abandon_kept, position_abandons}
 use Rattle.summary_core.proofs.board.Board.abandon.Goals as goal
 
 pub invariant_of-self : goal.invariant_of-self
 invariant_of-self c =
     let task = c.index_mut.result.now in
     let tasks = c.self.inside.tasks.items in
-    let within : c.in-Some.place < length tasks = subst (λ (xs : List Task). c.in-Some.place < length xs) c.deref.ensures.value c.in-Some.ensures.0 in
+    let within : c.in-Some.position < length tasks = subst (λ (xs : List Task). c.in-Some.position < length xs) c.deref.ensures.value c.in-Some.ensures.0 in
     let own : task.goal ≡ c.args.goal.vertex =
-    ap (λ (t : Task). t.goal) c.index_mut.ensures.value ∙ subst (λ (xs : List Task). (get_or xs c.in-Some.place task).goal ≡ c.args.goal.vertex) c.deref.ensures.value (c.in-Some.ensures.1 task) in
+    ap (λ (t : Task). t.goal) c.index_mut.ensures.value ∙ subst (λ (xs : List Task). (get_or xs c.in-Some.position task).goal ≡ c.args.goal.vertex) c.deref.ensures.value (c.in-Some.ensures.1 task) in
     let flies = subst (λ (b : BoardState). Flies b c.args.goal.vertex) (sym c.self.view_is) c.requires in
-    abandon_kept _ _ c.args.goal.vertex c.self.invariant (place_abandons _ c.args.goal.vertex c.in-Some.place task c.self.invariant.sound flies within c.index_mut.ensures.value own)
+    abandon_kept _ _ c.args.goal.vertex c.self.invariant (position_abandons _ c.args.goal.vertex c.in-Some.position task c.self.invariant.sound flies within c.index_mut.ensures.value own)
 
 pub returns : goal.returns
 returns c =
     let task = c.index_mut.result.now in
     let tasks = c.self.inside.tasks.items in
-    let within : c.in-Some.place < length tasks = subst (λ (xs : List Task). c.in-Some.place < length xs) c.deref.ensures.value c.in-Some.ensures.0 in
+    let within : c.in-Some.position < length tasks = subst (λ (xs : List Task). c.in-Some.position < length xs) c.deref.ensures.value c.in-Some.ensures.0 in
     let own : task.goal ≡ c.args.goal.vertex =
-    ap (λ (t : Task). t.goal) c.index_mut.ensures.value ∙ subst (λ (xs : List Task). (get_or xs c.in-Some.place task).goal ≡ c.args.goal.vertex) c.deref.ensures.value (c.in-Some.ensures.1 task) in
+    ap (λ (t : Task). t.goal) c.index_mut.ensures.value ∙ subst (λ (xs : List Task). (get_or xs c.in-Some.position task).goal ≡ c.args.goal.vertex) c.deref.ensures.value (c.in-Some.ensures.1 task) in
     let flies = subst (λ (b : BoardState). Flies b c.args.goal.vertex) (sym c.self.view_is) c.requires in
-    rw (← c.self.view_is) (place_abandons _ c.args.goal.vertex c.in-Some.place task c.self.invariant.sound flies within c.index_mut.ensures.value own)
+    rw (← c.self.view_is) (position_abandons _ c.args.goal.vertex c.in-Some.position task c.self.invariant.sound flies within c.index_mut.ensures.value own)

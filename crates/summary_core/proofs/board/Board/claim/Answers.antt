@@ -9,14 +9,14 @@ pub invariant_of-self : goal.invariant_of-self
 invariant_of-self c =
     let history = c.self.inside.history.items in
     let tasks = c.self.inside.tasks.items in
-    let first : IsFirst history tasks c.in-Some.place =
-    subst (λ (ts : List Task). IsFirst history ts c.in-Some.place) c.deref-2.ensures.value (subst (λ (h : List Pair). IsFirst h c.deref-2.result.now c.in-Some.place) c.deref.ensures.value c.in-Some.ensures) in
-    claim_kept _ _ _ c.self.invariant (first_claims _ c.in-Some.place c.index_mut-task.result.now c.self.invariant.sound first c.index_mut-task.ensures.value)
+    let first : IsFirst history tasks c.in-Some.position =
+    subst (λ (ts : List Task). IsFirst history ts c.in-Some.position) c.deref-2.ensures.value (subst (λ (h : List Pair). IsFirst h c.deref-2.result.now c.in-Some.position) c.deref.ensures.value c.in-Some.ensures) in
+    claim_kept _ _ _ c.self.invariant (first_claims _ c.in-Some.position c.index_mut-task.result.now c.self.invariant.sound first c.index_mut-task.ensures.value)
 
 pub returns : goal.returns
 returns c =
     let history = c.self.inside.history.items in
     let tasks = c.self.inside.tasks.items in
-    let first : IsFirst history tasks c.in-Some.place =
-    subst (λ (ts : List Task). IsFirst history ts c.in-Some.place) c.deref-2.ensures.value (subst (λ (h : List Pair). IsFirst h c.deref-2.result.now c.in-Some.place) c.deref.ensures.value c.in-Some.ensures) in
-    rw (← c.self.view_is) (first_claims _ c.in-Some.place c.index_mut-task.result.now c.self.invariant.sound first c.index_mut-task.ensures.value)
+    let first : IsFirst history tasks c.in-Some.position =
+    subst (λ (ts : List Task). IsFirst history ts c.in-Some.position) c.deref-2.ensures.value (subst (λ (h : List Pair). IsFirst h c.deref-2.result.now c.in-Some.position) c.deref.ensures.value c.in-Some.ensures) in
+    rw (← c.self.view_is) (first_claims _ c.in-Some.position c.index_mut-task.result.now c.self.invariant.sound first c.index_mut-task.ensures.value)

@@ -6,8 +6,8 @@ use Rattle.summary_core.specs.Board.{goals_of}
 use Rattle.summary_core.proofs.Finishing.{goals_are, finished_by}
 use Rattle.summary_core.proofs.board.Board.finish.Goals as goal
 
-pub true_pairs-requires-clause-goals : goal.true_pairs-requires-clause-goals
-true_pairs-requires-clause-goals c =
+pub true_pairs-requires : goal.true_pairs-requires
+true_pairs-requires c =
     subst (λ (f : FlowGraph). All (IsGoal f) c.deref-3.result.now) (sym c.deref-2.ensures)
     (subst (λ (gs : List ℕ). All (IsGoal c.self.inside.flow.value) gs) (sym c.deref-3.ensures.value)
     (goals_are (record { flow = c.self.inside.flow.value; starts = c.self.inside.starts; history = c.self.inside.history.items; tasks = c.self.inside.tasks.items }) c.in_ok-goals.goals.items c.self.invariant (c.in_ok-goals.ensures ∙ ap goals_of c.deref.ensures.value)))

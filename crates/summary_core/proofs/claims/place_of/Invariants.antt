@@ -1,6 +1,0 @@
-use Rattle.std.proofs.Common.{◌≡◌, ℕ, ◌<◌, get_or}
-use Rattle.summary_core.specs.declared.task.Task.{Task}
-use Rattle.summary_core.proofs.claims.place_of.Given as goal
-
-abbrev pub invariant-loop-place : goal.invariant-loop-place
-invariant-loop-place l = (k : ℕ) (d : Task) → k < l.place → ¬ ((get_or l.tasks k d).goal ≡ l.goal)
