@@ -1,9 +1,10 @@
 -- Chains of positions grow at the end.
-use Rattle.std.proofs.Common.{◌≡◌, ◌≢◌, ℕ, ◌+◌, ◌<◌, ◌≤◌, inl, inr, List, [], ◌∷◌, ◌++◌, length, get_or, set, sym, ap, ◌∙◌, arith, subst, length-append, get_or-set_same, get_or-set_other, Option, Some, None}
+use Rattle.std.proofs.Common.{◌≡◌, ◌≢◌, ℕ, ◌+◌, ◌<◌, ◌≤◌, inl, inr, List, [], ◌∷◌, ◌++◌, length, get_or, set, sym, ap, ◌∙◌, arith, subst, length-append, length-take, take, get_or-set_same, get_or-set_other, Option, Some, None}
 use Rattle.std.proofs.Math.ListN.{length-set}
 use Rattle.std.proofs.Math.Seq.{get_or-append_seam}
 use Rattle.std.proofs.lemmas.Bool.{cases_lt, cases_eq}
-use Rattle.std.proofs.lemmas.List.{get_or_append_left}
+use Rattle.std.specs.List.{All}
+use Rattle.std.proofs.lemmas.List.{get_or_append_left, take_more}
 use Rattle.flow_index.specs.Positions.{IsLast, IsLastPosition, AreChained}
 
 -- a key behind the end changes nothing
@@ -85,3 +86,23 @@ chained_more last keys before key below is = record {
             rw (value, own, at) (last_more keys (key ∷ []) key (length keys) _ (omega arith) (is.heads key below))
       ];
 }
+
+-- The first keys are chained.
+pub record Chaining (count : ℕ) (keys : List ℕ) (last before : List (Option ℕ)) (index : ℕ) : Type 0 where
+  pub count_is : length last ≡ count
+  pub chained : AreChained last (take index keys) before
+
+pub chaining_more : (count : ℕ) (keys : List ℕ) (last before : List (Option ℕ)) (index : ℕ) → All (λ key. key < count) keys → index < length keys → Chaining count keys last before index →
+    Chaining count keys (set last (get_or keys index 0) (Some index)) (before ++ get_or last (get_or keys index 0) None ∷ []) (index + 1)
+chaining_more count keys last before index below within is =
+    let key = get_or keys index 0 in
+    let small : key < count = below index 0 within in
+    let inside : key < length last = omega (arith, is.count_is) in
+    let len : length (take index keys) ≡ index = omega (arith, length-take index keys) in
+    let front : take (index + 1) keys ≡ take index keys ++ key ∷ [] = take_more keys index 0 within in
+    record {
+      count_is = length-set last key (Some index) ∙ is.count_is;
+      chained = subst (λ (ks : List ℕ). AreChained (set last key (Some index)) ks (before ++ get_or last key None ∷ [])) (sym front)
+          (subst (λ (n : ℕ). AreChained (set last key (Some n)) (take index keys ++ key ∷ []) (before ++ get_or last key None ∷ [])) len
+          (chained_more last (take index keys) before key inside is.chained));
+    }

@@ -79,14 +79,14 @@ impl CrossingIndex {
             .iter()
             .map(|entry| entry.to)
             .collect(alloc)?;
-        let by_goal = Chains::of(alloc, flow.vertices as usize, &goals)?;
+        let by_goal = Chains::of(alloc, flow.vertices as usize, goals)?;
         let calls: Vec<u32> = flow
             .closes
             .items()
             .iter()
             .map(|close| close.call.min(flow.vertices))
             .collect(alloc)?;
-        let by_call = Chains::of(alloc, flow.vertices as usize + 1, &calls)?;
+        let by_call = Chains::of(alloc, flow.vertices as usize + 1, calls)?;
         Ok(CrossingIndex { by_goal, by_call })
     }
 

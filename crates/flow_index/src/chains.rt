@@ -5,19 +5,20 @@ ghost use Rattle.std.specs.Prelude.{length, slice_index, IfOk, OnErr, OnOk};
 ghost use Rattle.std.specs.List.{All};
 ghost use Rattle.flow_index.specs.Positions.{IsLastPosition};
 
+use crate::link::Link;
 use std::alloc::{AllocError, Global};
 use std::marker::Model;
 
 /// For each key below a count, the positions of a list at which it stands, from the last on.
 ///
-/// Contracts see the count and the list of keys. A list of 2^32 keys counts as want of memory.
+/// Contracts see the count and the list of keys. A list of 2^32 - 1 keys counts as want of memory.
 #[derive(Drop)]
 pub struct Chains {
     /// The last position of each key.
-    last: Vec<Option<u32>>,
+    last: Vec<Link>,
     keys: Vec<u32>,
     /// For each position the one before it that has the same key.
-    before: Vec<Option<u32>>,
+    before: Vec<Link>,
 }
 
 impl Model for Chains {
@@ -41,32 +42,29 @@ impl Chains {
         ensures count { IfOk result (λ chains. chains.count ≡ count) }
         ensures keys { IfOk result (λ chains. chains.keys ≡ []) }
     {
-        Chains::with_room(alloc, count, 0)
-    }
-
-    /// No keys yet, and the memory that so many keys take.
-    fn with_room(alloc: Global, count: usize, room: usize) -> Result<Chains, AllocError>
-        ensures count { IfOk result (λ chains. chains.count ≡ count) }
-        ensures keys { IfOk result (λ chains. chains.keys ≡ []) }
-    {
         Ok(Chains {
-            last: Vec::from_elem(alloc, None, count)?,
-            keys: Vec::with_capacity(alloc, room)?,
-            before: Vec::with_capacity(alloc, room)?,
+            last: Vec::from_elem(alloc, Link::none(), count)?,
+            keys: Vec::new(alloc),
+            before: Vec::new(alloc),
         })
     }
 
     /// These keys, in their order.
-    pub fn of(alloc: Global, count: usize, keys: &[u32]) -> Result<Chains, AllocError>
-        requires { All (λ key. key < count) keys.now }
+    pub fn of(alloc: Global, count: usize, keys: Vec<u32>) -> Result<Chains, AllocError>
+        requires { All (λ key. key < count) keys.items }
         ensures count { IfOk result (λ chains. chains.count ≡ count) }
-        ensures keys { IfOk result (λ chains. chains.keys ≡ keys.now) }
+        ensures keys { IfOk result (λ chains. chains.keys ≡ keys.items) }
     {
-        let mut chains = Chains::with_room(alloc, count, keys.len())?;
-        for key in keys {
-            chains.push(*key)?;
+        let mut last = Vec::from_elem(alloc, Link::none(), count)?;
+        let mut before = Vec::with_capacity(alloc, keys.len())?;
+        for (position, key) in keys.iter().enumerate() {
+            let Some(link) = Link::to(position) else {
+                return Err(AllocError);
+            };
+            before.push(last[*key as usize])?;
+            last[*key as usize] = link;
         }
-        Ok(chains)
+        Ok(Chains { last, keys, before })
     }
 
     /// Adds a key at the end.
@@ -76,7 +74,7 @@ impl Chains {
         ensures ok { OnOk result (self.new.keys ≡ self.old.keys ++ key ∷ []) }
         ensures err { OnErr result (self.new.keys ≡ self.old.keys) }
     {
-        let Ok(position) = u32::try_from(self.keys.len()) else {
+        let Some(link) = Link::to(self.keys.len()) else {
             return Err(AllocError);
         };
         let before = self.last[key as usize];
@@ -85,7 +83,7 @@ impl Chains {
             self.before.pop();
             return Err(failed.into());
         }
-        self.last[key as usize] = Some(position);
+        self.last[key as usize] = link;
         Ok(())
     }
 
@@ -94,7 +92,7 @@ impl Chains {
         requires { key < self.now.count }
         ensures { IsLastPosition self.now.keys key (length self.now.keys) result }
     {
-        self.last[key as usize]
+        self.last[key as usize].get()
     }
 
     /// The position before this one that has the same key.
@@ -102,6 +100,6 @@ impl Chains {
         requires { position < length self.now.keys }
         ensures { IsLastPosition self.now.keys (slice_index self.now.keys position) position result }
     {
-        self.before[position as usize]
+        self.before[position as usize].get()
     }
 }

@@ -5,6 +5,7 @@
 mod bridging;
 mod chains;
 mod crossing_ways;
+mod link;
 mod reaching;
 mod vertex_set;
 

@@ -44,7 +44,7 @@ pub fn reached(
         Contains set.met vertex ↔ IsReached ways.now starts.now vertex) }
 {
     let keys: Vec<u32> = ways.iter().map(|way| way.0).collect(alloc)?;
-    let chains = Chains::of(alloc, count as usize, &keys)?;
+    let chains = Chains::of(alloc, count as usize, keys)?;
     let mut set = VertexSet::new(alloc, count)?;
     for start in starts {
         set.meet(*start)?;

@@ -35,7 +35,7 @@ fn flat(alloc: Global, flow: &FlowGraph) -> Result<Chains, AllocError>
     ensures keys { IfOk result (λ chains. chains.keys ≡ map (λ edge. edge.0) flow.now.flat) }
 {
     let keys: Vec<u32> = flow.flat.items().iter().map(|edge| edge.0).collect(alloc)?;
-    let chains = Chains::of(alloc, flow.vertices as usize, &keys)?;
+    let chains = Chains::of(alloc, flow.vertices as usize, keys)?;
     Ok(chains)
 }
 

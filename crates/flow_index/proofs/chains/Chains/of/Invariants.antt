@@ -1,5 +1,5 @@
-use Rattle.std.proofs.Common.{◌≡◌, take}
+use Rattle.flow_index.proofs.Chaining.{Chaining}
 use Rattle.flow_index.proofs.chains.Chains.of.Given as goal
 
-abbrev pub invariant-loop-key : goal.invariant-loop-key
-invariant-loop-key l = (l.chains.count ≡ l.count) × (l.chains.keys ≡ take l.key-index l.keys)
+abbrev pub invariant-loop-position : goal.invariant-loop-position
+invariant-loop-position l = Chaining l.count l.fn.keys.items l.last.items l.before.items l.position
