@@ -5,6 +5,7 @@ pub mod Gathering
 pub mod Finding
 pub mod Wanting
 pub mod Changing
+pub mod Looking
 pub mod Claiming
 pub mod Publishing
 pub mod Rising

@@ -1,13 +1,20 @@
 -- How the task to claim is found.
 use Rattle.std.specs.Prelude.{ℕ, ◌<◌, ◌≤◌, List, length, slice_index_or, Option, MatchOption}
 use Rattle.std.specs.List.{All}
+use Rattle.std.specs.List.Sorted.{IsStrictlyIncreasing}
 use Rattle.matched_paths.specs.declared.flow_graph.Pair.{Pair}
+use Rattle.summary_core.specs.declared.task.Stamp.{Stamp}
 use Rattle.summary_core.specs.declared.task.Task.{Task}
 use Rattle.summary_core.specs.Board.{IsClaimable}
 
--- The stamp's search, where there is one, saw a front of the history.
-abbrev pub HasSeen : List Pair → Task → Type 0
-HasSeen history task = MatchOption task.stamp (Unit {0}) (λ stamp. stamp.seen ≤ length history)
+-- The stamp's search saw a front of the history, and the goals that it asked rise.
+pub record IsFront (history : List Pair) (stamp : Stamp) : Type 0 where
+  pub seen : stamp.seen ≤ length history
+  pub rise : IsStrictlyIncreasing stamp.asked
+
+-- The stamp of the task, where there is one, is so.
+abbrev pub HasFront : List Pair → Task → Type 0
+HasFront history task = MatchOption task.stamp (Unit {0}) (IsFront history)
 
 -- The task at the position is claimable, and none before it is.
 pub record IsFirst (history : List Pair) (tasks : List Task) (position : ℕ) : Type 0 where

@@ -6,7 +6,7 @@ ghost use Rattle.std.specs.List.{All, Contains};
 ghost use Rattle.std.specs.List.Sorted.{IsStrictlyIncreasing};
 ghost use Rattle.summary_core.specs.Board.{goals_of, IsClaimable, IsStale};
 ghost use Rattle.summary_core.specs.Events.{AddsNew};
-ghost use Rattle.summary_core.specs.Claiming.{HasSeen, IsFirstClaimable};
+ghost use Rattle.summary_core.specs.Claiming.{HasFront, IsFirstClaimable, IsFront};
 
 use crate::task::{Stamp, Task};
 use matched_paths::Pair;
@@ -21,23 +21,23 @@ pub(crate) fn goals_among(alloc: Global, tasks: &[Task]) -> Result<Vec<u32>, All
 
 /// Where the task of the goal stands.
 pub(crate) fn position_of(tasks: &[Task], goal: u32) -> Option<usize>
+    requires { IsStrictlyIncreasing (goals_of tasks.now) }
     ensures { MatchOption result (All (λ task. ¬ (task.goal ≡ goal)) tasks.now)
         (λ position. (position < length tasks.now)
         × ((d : Task) → (slice_index_or tasks.now position d).goal ≡ goal)) }
 {
-    for (position, task) in tasks.iter().enumerate() {
-        if task.goal == goal {
-            return Some(position);
-        }
+    match tasks.binary_search_by_key(&goal, |task| task.goal) {
+        Ok(position) => Some(position),
+        Err(_) => None,
     }
-    None
 }
 
 /// Whether the goal was asked.
 fn asks(asked: &[u32], goal: u32) -> bool
+    requires { IsStrictlyIncreasing asked.now }
     ensures { IsTrue result ↔ Contains asked.now goal }
 {
-    asked.contains(&goal)
+    asked.binary_search(&goal).is_ok()
 }
 
 /// Whether the pair stands in the history.
@@ -49,7 +49,7 @@ fn stands(history: &[Pair], pair: Pair) -> bool
 
 /// Whether a pair after those that the stamp's search saw begins at a goal that it asked.
 fn is_stale(history: &[Pair], stamp: &Stamp) -> bool
-    requires { stamp.now.seen ≤ length history.now }
+    requires { IsFront history.now stamp.now }
     ensures { IsTrue result ↔ IsStale history.now stamp.now }
 {
     for position in stamp.seen as usize..history.len() {
@@ -62,7 +62,7 @@ fn is_stale(history: &[Pair], stamp: &Stamp) -> bool
 
 /// Whether the goal of the task is dirty and in no flight.
 fn is_claimable(history: &[Pair], task: &Task) -> bool
-    requires { HasSeen history.now task.now }
+    requires { HasFront history.now task.now }
     ensures { IsTrue result ↔ IsClaimable history.now task.now }
 {
     if task.flies {
@@ -76,7 +76,7 @@ fn is_claimable(history: &[Pair], task: &Task) -> bool
 
 /// The first task that is claimable.
 pub(crate) fn first_claimable(history: &[Pair], tasks: &[Task]) -> Option<usize>
-    requires { All (HasSeen history.now) tasks.now }
+    requires { All (HasFront history.now) tasks.now }
     ensures { IsFirstClaimable history.now tasks.now result }
 {
     for (position, task) in tasks.iter().enumerate() {
