@@ -1,26 +1,14 @@
 -- The first claimable task is the one to claim.
-use Rattle.std.proofs.Common.{◌≡◌, ℕ, ◌<◌, inl, inr, true, false, List, length, get_or, set, refl, sym, ap, ◌∙◌, arith, subst, Option, Some, None, MatchOption}
-use Rattle.std.specs.List.{All}
+use Rattle.std.proofs.Common.{◌≡◌, ℕ, ◌<◌, inl, inr, true, false, length, get_or, set, refl, sym, ap, ◌∙◌, arith, subst}
 use Rattle.std.proofs.lemmas.Bool.{cases_lt}
 use Rattle.std.proofs.lemmas.List.{get_or_default}
-use Rattle.std.proofs.lemmas.List.Elements.{All-weaker}
-use Rattle.matched_paths.specs.declared.flow_graph.FlowGraph.{FlowGraph}
-use Rattle.matched_paths.specs.declared.flow_graph.Pair.{Pair}
-use Rattle.summary_core.specs.declared.task.Stamp.{Stamp}
 use Rattle.summary_core.specs.declared.task.Task.{Task}
 use Rattle.summary_core.specs.Board.{BoardState, IsClaimable}
-use Rattle.summary_core.specs.Claiming.{HasFront, IsFirst, IsFront}
+use Rattle.summary_core.specs.Claiming.{IsFirst}
 use Rattle.summary_core.specs.Events.{Abandons, Claims, Flies}
-use Rattle.summary_core.specs.Sound.{HasSoundStamp, IsKeptBoard, IsSound, IsStampOf}
+use Rattle.summary_core.specs.Sound.{IsKeptBoard, IsSound}
 use Rattle.summary_core.proofs.Changing.{tasks_rise, set_changed}
 use Rattle.summary_core.proofs.Kept.{claim_sound, abandon_sound}
-
-front_of : (flow : FlowGraph) (history : List Pair) (goal : ℕ) (stamp : Option Stamp) → MatchOption stamp (Unit {0}) (λ s. IsStampOf flow history goal s) → MatchOption stamp (Unit {0}) (IsFront history)
-front_of flow history goal None is = tt
-front_of flow history goal (Some stamp) is = record { seen = is.seen; rise = is.asked_rise }
-
-pub all_fronts : (board : BoardState) → IsSound board → All (HasFront board.history) board.tasks
-all_fronts board sound = All-weaker (HasSoundStamp board.flow board.history) (HasFront board.history) (λ task is. front_of board.flow board.history task.goal task.stamp is) board.tasks sound.stamps
 
 pub first_claims : (board : BoardState) (position : ℕ) (task : Task) → IsSound board → IsFirst board.history board.tasks position → task ≡ get_or board.tasks position task →
     Claims board task.goal (record board { tasks = set board.tasks position (record task { flies = true }) })

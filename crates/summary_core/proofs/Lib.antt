@@ -6,6 +6,7 @@ pub mod Finding
 pub mod Wanting
 pub mod Changing
 pub mod Looking
+pub mod Knowing
 pub mod Claiming
 pub mod Publishing
 pub mod Rising

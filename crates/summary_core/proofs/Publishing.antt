@@ -41,24 +41,25 @@ adding_none before goal outs = record {
   below = λ k later inside. All-nil (λ (pair : Pair). pair.out < get_or outs k 0);
 }
 
-pub adding_skip : (before : List Pair) (goal : ℕ) (outs : List ℕ) (after : List Pair) (index : ℕ) → Contains after (record { goal = goal; out = get_or outs index 0 }) → Adding before goal outs after index → Adding before goal outs after (index + 1)
+pub adding_skip : (before : List Pair) (goal : ℕ) (outs : List ℕ) (after : List Pair) (index : ℕ) → Contains before (record { goal = goal; out = get_or outs index 0 }) → Adding before goal outs after index → Adding before goal outs after (index + 1)
 adding_skip before goal outs after index has is = record {
   new = is.new;
   kept = is.kept;
   each = is.each;
   all = λ k less inside. elim (cases_lt k index) [
     | inl front ↦ is.all k front inside
-    | inr not_front ↦ let here : index ≡ k = omega arith in subst (λ (i : ℕ). Contains after (record { goal = goal; out = get_or outs i 0 })) here has
+    | inr not_front ↦ let here : index ≡ k = omega arith in
+        let stands : Contains after (record { goal = goal; out = get_or outs index 0 }) = subst (λ (xs : List Pair). Contains xs (record { goal = goal; out = get_or outs index 0 })) (sym is.kept) (Contains-append_left before is.new _ has) in
+        subst (λ (i : ℕ). Contains after (record { goal = goal; out = get_or outs i 0 })) here stands
   ];
   rise = is.rise;
   below = λ k later inside. is.below k (omega arith) inside;
 }
 
-pub adding_one : (before : List Pair) (goal : ℕ) (outs : List ℕ) (after : List Pair) (index : ℕ) → IsStrictlyIncreasing outs → index < length outs → ¬ Contains after (record { goal = goal; out = get_or outs index 0 }) →
+pub adding_one : (before : List Pair) (goal : ℕ) (outs : List ℕ) (after : List Pair) (index : ℕ) → IsStrictlyIncreasing outs → index < length outs → ¬ Contains before (record { goal = goal; out = get_or outs index 0 }) →
     Adding before goal outs after index → Adding before goal outs (after ++ record { goal = goal; out = get_or outs index 0 } ∷ []) (index + 1)
-adding_one before goal outs after index outs_rise within hasnt is =
+adding_one before goal outs after index outs_rise within fresh is =
     let pair : Pair = record { goal = goal; out = get_or outs index 0 } in
-    let fresh : ¬ Contains before pair = λ has. hasnt (subst (λ (xs : List Pair). Contains xs pair) (sym is.kept) (Contains-append_left before is.new pair has)) in
     record {
       new = is.new ++ pair ∷ [];
       kept = ap (λ xs. xs ++ pair ∷ []) is.kept ∙ append_assoc before is.new (pair ∷ []);

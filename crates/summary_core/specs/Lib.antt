@@ -3,5 +3,6 @@ pub mod Searches
 pub mod Board
 pub mod Events
 pub mod Claiming
+pub mod Knowing
 pub mod Sound
 pub mod Table

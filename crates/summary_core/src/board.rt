@@ -12,6 +12,7 @@ ghost use Rattle.summary_core.specs.Table.{IsClosed};
 use crate::claims::{add_pairs, first_claimable, goals_among, position_of};
 use crate::closed::Closed;
 use crate::found::{Found, Goal};
+use crate::known::Known;
 use crate::mirror::Mirror;
 use crate::task::{Stamp, Task};
 use crate::wanted::wanted_tasks;
@@ -31,12 +32,14 @@ pub struct Board {
     flow: Arc<FlowGraph>,
     starts: ListOf<u32>,
     pub(crate) history: Vec<Pair>,
+    known: Known,
     tasks: Vec<Task>,
 }
 
 impl Model for Board {
     ghost use Rattle.summary_core.specs.Board.{BoardState};
     ghost use Rattle.summary_core.specs.Sound.{IsKeptBoard};
+    ghost use Rattle.summary_core.specs.Knowing.{KnowsFront};
 
     ghost Value = { BoardState };
 
@@ -52,7 +55,7 @@ impl Model for Board {
       starts = board.starts;
       history = board.history.items;
       tasks = board.tasks.items;
-    }) };
+    }) × KnowsFront board.known board.history.items };
 }
 
 impl Board {
@@ -70,6 +73,7 @@ impl Board {
             flow,
             starts,
             history: Vec::new(alloc),
+            known: Known::new(alloc),
             tasks,
         })
     }
@@ -126,7 +130,8 @@ impl Board {
             unreachable!()
         };
         let Found { outs, asked, seen } = found;
-        add_pairs(&mut self.history, goal.vertex, outs.items())?;
+        self.known.take_up(&self.history)?;
+        add_pairs(&mut self.history, &self.known, goal.vertex, outs.items())?;
         let task = &mut self.tasks[position];
         task.stamp = Some(Stamp { seen, asked });
         task.flies = false;
@@ -155,6 +160,7 @@ impl Board {
             flow,
             starts,
             history: _,
+            known: _,
             tasks,
         } = self;
         let goals = goals_among(alloc, &tasks)?;

@@ -6,8 +6,10 @@ ghost use Rattle.std.specs.List.{All, Contains};
 ghost use Rattle.std.specs.List.Sorted.{IsStrictlyIncreasing};
 ghost use Rattle.summary_core.specs.Board.{goals_of, IsClaimable, IsStale};
 ghost use Rattle.summary_core.specs.Events.{AddsNew};
+ghost use Rattle.summary_core.specs.Knowing.{Knows};
 ghost use Rattle.summary_core.specs.Claiming.{HasFront, IsFirstClaimable, IsFront};
 
+use crate::known::Known;
 use crate::task::{Stamp, Task};
 use matched_paths::Pair;
 use std::alloc::{AllocError, Global};
@@ -38,13 +40,6 @@ fn asks(asked: &[u32], goal: u32) -> bool
     ensures { IsTrue result ↔ Contains asked.now goal }
 {
     asked.binary_search(&goal).is_ok()
-}
-
-/// Whether the pair stands in the history.
-fn stands(history: &[Pair], pair: Pair) -> bool
-    ensures { IsTrue result ↔ Contains history.now pair }
-{
-    history.contains(&pair)
 }
 
 /// Whether a pair after those that the stamp's search saw begins at a goal that it asked.
@@ -88,15 +83,21 @@ pub(crate) fn first_claimable(history: &[Pair], tasks: &[Task]) -> Option<usize>
 }
 
 /// Adds the pairs of the goal and these outs that do not stand in the history.
-pub(crate) fn add_pairs(history: &mut Vec<Pair>, goal: u32, outs: &[u32]) -> Result<(), AllocError>
-    requires { IsStrictlyIncreasing outs.now }
+pub(crate) fn add_pairs(
+    history: &mut Vec<Pair>,
+    known: &Known,
+    goal: u32,
+    outs: &[u32],
+) -> Result<(), AllocError>
+    requires rise { IsStrictlyIncreasing outs.now }
+    requires knows { Knows known.now history.old.items }
     ensures ok { OnOk result (AddsNew history.old.items goal outs.now history.new.items) }
     ensures err { OnErr result (history.new.items ≡ history.old.items) }
 {
     let len = history.len();
     for out in outs {
         let pair = Pair { goal, out: *out };
-        if !stands(history, pair) {
+        if !known.has(pair) {
             if let Err(failed) = history.push(pair) {
                 history.truncate(len);
                 return Err(failed.into());

@@ -6,6 +6,7 @@ mod board;
 mod claims;
 mod closed;
 mod found;
+mod known;
 pub mod laws;
 mod mirror;
 mod search;

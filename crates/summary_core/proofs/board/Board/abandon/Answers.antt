@@ -13,7 +13,7 @@ invariant_of-self c =
     let own : task.goal ≡ c.args.goal.vertex =
     ap (λ (t : Task). t.goal) c.index_mut.ensures.value ∙ subst (λ (xs : List Task). (get_or xs c.in-Some.position task).goal ≡ c.args.goal.vertex) c.deref.ensures.value (c.in-Some.ensures.1 task) in
     let flies = subst (λ (b : BoardState). Flies b c.args.goal.vertex) (sym c.self.view_is) c.requires in
-    abandon_kept _ _ c.args.goal.vertex c.self.invariant (position_abandons _ c.args.goal.vertex c.in-Some.position task c.self.invariant.sound flies within c.index_mut.ensures.value own)
+    (abandon_kept _ _ c.args.goal.vertex c.self.invariant.0 (position_abandons _ c.args.goal.vertex c.in-Some.position task c.self.invariant.0.sound flies within c.index_mut.ensures.value own), c.self.invariant.1)
 
 pub returns : goal.returns
 returns c =
@@ -23,4 +23,4 @@ returns c =
     let own : task.goal ≡ c.args.goal.vertex =
     ap (λ (t : Task). t.goal) c.index_mut.ensures.value ∙ subst (λ (xs : List Task). (get_or xs c.in-Some.position task).goal ≡ c.args.goal.vertex) c.deref.ensures.value (c.in-Some.ensures.1 task) in
     let flies = subst (λ (b : BoardState). Flies b c.args.goal.vertex) (sym c.self.view_is) c.requires in
-    rw (← c.self.view_is) (position_abandons _ c.args.goal.vertex c.in-Some.position task c.self.invariant.sound flies within c.index_mut.ensures.value own)
+    rw (← c.self.view_is) (position_abandons _ c.args.goal.vertex c.in-Some.position task c.self.invariant.0.sound flies within c.index_mut.ensures.value own)

@@ -11,7 +11,7 @@ invariant_of-self c =
     let tasks = c.self.inside.tasks.items in
     let first : IsFirst history tasks c.in-Some.position =
     subst (λ (ts : List Task). IsFirst history ts c.in-Some.position) c.deref-2.ensures.value (subst (λ (h : List Pair). IsFirst h c.deref-2.result.now c.in-Some.position) c.deref.ensures.value c.in-Some.ensures) in
-    claim_kept _ _ _ c.self.invariant (first_claims _ c.in-Some.position c.index_mut-task.result.now c.self.invariant.sound first c.index_mut-task.ensures.value)
+    (claim_kept _ _ _ c.self.invariant.0 (first_claims _ c.in-Some.position c.index_mut-task.result.now c.self.invariant.0.sound first c.index_mut-task.ensures.value), c.self.invariant.1)
 
 pub returns : goal.returns
 returns c =
@@ -19,4 +19,4 @@ returns c =
     let tasks = c.self.inside.tasks.items in
     let first : IsFirst history tasks c.in-Some.position =
     subst (λ (ts : List Task). IsFirst history ts c.in-Some.position) c.deref-2.ensures.value (subst (λ (h : List Pair). IsFirst h c.deref-2.result.now c.in-Some.position) c.deref.ensures.value c.in-Some.ensures) in
-    rw (← c.self.view_is) (first_claims _ c.in-Some.position c.index_mut-task.result.now c.self.invariant.sound first c.index_mut-task.ensures.value)
+    rw (← c.self.view_is) (first_claims _ c.in-Some.position c.index_mut-task.result.now c.self.invariant.0.sound first c.index_mut-task.ensures.value)

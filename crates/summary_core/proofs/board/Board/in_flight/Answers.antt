@@ -11,4 +11,4 @@ returns-in-Some c =
     let within : c.in-Some.position < length tasks = subst (λ (xs : List Task). c.in-Some.position < length xs) c.deref.ensures.value c.in-Some.ensures.0 in
     let own : task.goal ≡ c.args.goal.vertex =
     ap (λ (t : Task). t.goal) c.index.ensures ∙ subst (λ (xs : List Task). (get_or xs c.in-Some.position task).goal ≡ c.args.goal.vertex) c.deref.ensures.value (c.in-Some.ensures.1 task) in
-    rw (← view) (flight_is _ c.args.goal.vertex c.in-Some.position task (tasks_rise tasks c.self.invariant.sound.goals.rise) within c.index.ensures own)
+    rw (← view) (flight_is _ c.args.goal.vertex c.in-Some.position task (tasks_rise tasks c.self.invariant.0.sound.goals.rise) within c.index.ensures own)
