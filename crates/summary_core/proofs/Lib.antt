@@ -7,6 +7,7 @@ pub mod Wanting
 pub mod Changing
 pub mod Looking
 pub mod Knowing
+pub mod Marking
 pub mod Claiming
 pub mod Publishing
 pub mod Rising

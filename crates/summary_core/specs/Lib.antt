@@ -4,5 +4,6 @@ pub mod Board
 pub mod Events
 pub mod Claiming
 pub mod Knowing
+pub mod Marking
 pub mod Sound
 pub mod Table

@@ -8,6 +8,7 @@ mod closed;
 mod found;
 mod known;
 pub mod laws;
+mod marks;
 mod mirror;
 mod search;
 mod task;
