@@ -5,9 +5,10 @@ use Rattle.std.specs.List.{slice_get}
 use Rattle.c_lexer.specs.declared.token.Token.{Token}
 use Rattle.c_lexer.specs.Lexemes.{Lexeme}
 use Rattle.reading.specs.Readers.{take, expect, is_ahead, offends, too_deep}
-use Rattle.c_reading.specs.Kept.{ArePositionsIn, KeptToken, lexeme_in, numbered, items_at, kept_lexemes}
+use Rattle.c_reading.specs.Kept.{KeptToken, lexeme_in, numbered, kept_lexemes}
+use Rattle.line_marks.specs.Kept.{ArePositionsIn, items_at}
 use Rattle.c_reading.specs.Cursors.{Place, input_at, number_ahead, number_of}
-use Rattle.c_reading.proofs.ItemsAt.{length-items_at}
+use Rattle.line_marks.proofs.ItemsAt.{length-items_at}
 
 there_from : (bytes : List ℕ) (tokens : List Token) (at : ℕ) (t : Token) → slice_get tokens at ≡ Some t →
     drop at (map (lexeme_in bytes) tokens) ≡ lexeme_in bytes t ∷ drop (suc at) (map (lexeme_in bytes) tokens)

@@ -1,22 +1,14 @@
 -- The kept tokens of a file, as the grammar sees them.
 
-use Rattle.std.specs.Prelude.{ℕ, ◌+◌, ◌<◌, List, [], ◌∷◌, map, length, slice_get, slice_range}
-use Rattle.std.specs.List.{All, filter_map}
+use Rattle.std.specs.Prelude.{ℕ, ◌+◌, List, [], ◌∷◌, map, slice_range}
 use Rattle.c_lexer.specs.declared.token.Token.{Token}
 use Rattle.c_lexer.specs.Lexemes.{Lexeme}
+use Rattle.line_marks.specs.Kept.{items_at}
 
 -- What is seen of a token of the text.
 abbrev pub lexeme_in : List ℕ → Token → Lexeme
 lexeme_in bytes token =
     record { kind = token.kind; spelling = slice_range bytes token.start token.end }
-
--- Each position is that of an item of the list.
-abbrev pub ArePositionsIn : {A : Type 0} → List A → List ℕ → Type 0
-ArePositionsIn items positions = All (λ position. position < length items) positions
-
--- The items at the positions, in their order.
-unfoldable pub items_at : {A : Type 0} → List A → List ℕ → List A
-items_at items positions = filter_map (slice_get items) positions
 
 -- The lexemes at the positions.
 abbrev pub kept_lexemes : List ℕ → List Token → List ℕ → List Lexeme

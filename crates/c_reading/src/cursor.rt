@@ -7,13 +7,15 @@ ghost use Rattle.reading.specs.Exact.{room_on};
 ghost use Rattle.reading.specs.Readers.{expect, is_ahead, take};
 ghost use Rattle.c_reading.specs.Cursors.{beginning, by_kind, first_kind, first_spelling};
 ghost use Rattle.c_reading.specs.Cursors.{input_of, number_of};
-ghost use Rattle.c_reading.specs.Kept.{ArePositionsIn, kept_lexemes};
+ghost use Rattle.c_reading.specs.Kept.{kept_lexemes};
 ghost use Rattle.c_reading.specs.Reads.{Reads};
 ghost use Rattle.c_reading.specs.Terminals.{terminal};
+ghost use Rattle.line_marks.specs.Kept.{ArePositionsIn};
 
-use crate::kept::{item_at, spelled};
+use crate::spelled::spelled;
 use crate::stop::Stop;
 use c_lexer::{Kind, Token};
+use line_marks::item_at;
 use std::marker::Model;
 
 /// A place among the kept tokens of a file. Contracts see the tokens that are left, with the number
@@ -35,7 +37,8 @@ impl<'t> Model for Cursor<'t> {
     ghost use Rattle.std.specs.List.{All};
     ghost use Rattle.c_lexer.specs.Reading.{IsWithin};
     ghost use Rattle.c_reading.specs.Cursors.{Place, place_of};
-    ghost use Rattle.c_reading.specs.Kept.{ArePositionsIn, kept_lexemes};
+    ghost use Rattle.c_reading.specs.Kept.{kept_lexemes};
+    ghost use Rattle.line_marks.specs.Kept.{ArePositionsIn};
 
     ghost Value = { Place };
 

@@ -2,7 +2,7 @@
 #![tactic(auto)]
 
 mod cursor;
-mod kept;
+mod spelled;
 mod stop;
 #[cfg(test)]
 mod tests;

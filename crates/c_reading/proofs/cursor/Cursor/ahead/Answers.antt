@@ -1,6 +1,6 @@
 use Rattle.std.proofs.Common.{List, sym, ap, ◌∙◌}
 use Rattle.c_lexer.specs.Lexemes.{Lexeme}
-use Rattle.c_reading.specs.Kept.{items_at}
+use Rattle.line_marks.specs.Kept.{items_at}
 use Rattle.c_reading.specs.Cursors.{first_kind, Place}
 use Rattle.c_reading.proofs.Places.{there_is, none_is}
 use Rattle.c_reading.proofs.cursor.Cursor.ahead.Goals as goal

@@ -1,7 +1,7 @@
 use Rattle.std.proofs.Common.{List, sym, ap, ◌∙◌}
 use Rattle.c_lexer.specs.Lexemes.{Lexeme}
 use Rattle.c_lexer.specs.Reading.{IsWithin}
-use Rattle.c_reading.specs.Kept.{items_at}
+use Rattle.line_marks.specs.Kept.{items_at}
 use Rattle.c_reading.specs.Cursors.{first_spelling, Place}
 use Rattle.c_reading.proofs.ItemsAt.{all_at}
 use Rattle.c_reading.proofs.Places.{there_is, none_is}
@@ -10,7 +10,7 @@ use Rattle.c_reading.proofs.cursor.Cursor.spelling.Goals as goal
 pub spelled-requires : goal.spelled-requires
 spelled-requires c =
     let i = c.self.inside in
-    record { within = all_at (IsWithin i.bytes.now) i.tokens.now i.kept.now i.at c.in-Some.token c.self.invariant.2 c.self.invariant.3 (sym c.in-Some.ensures) }
+    record { within = all_at (IsWithin i.bytes.now) i.tokens.now i.kept.now i.at c.in-Some.token c.self.invariant.3 (sym c.in-Some.ensures) }
 
 pub returns-in-Some : goal.returns-in-Some
 returns-in-Some c =
