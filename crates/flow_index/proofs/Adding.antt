@@ -1,5 +1,5 @@
 -- Ways that are added one after another.
-use Rattle.std.proofs.Common.{◌≡◌, ℕ, ◌+◌, ◌<◌, ◌≤◌, inl, inr, List, [], ◌∷◌, ◌++◌, length, get_or, min, refl, sym, ap, ◌∙◌, arith, subst, append_assoc, Option, Some, None}
+use Rattle.std.proofs.Common.{◌≡◌, ℕ, ◌+◌, ◌<◌, ◌≤◌, inl, inr, List, [], ◌∷◌, ◌++◌, length, get_or, refl, sym, ap, ◌∙◌, arith, subst, append_assoc, Option, Some, None}
 use Rattle.std.specs.List.{All, Contains}
 use Rattle.std.proofs.lemmas.Bool.{cases_lt}
 use Rattle.std.proofs.lemmas.List.{append-nil, length-map, get_or-map, get_or_default}
@@ -9,8 +9,8 @@ use Rattle.matched_paths.specs.declared.flow_graph.FlowGraph.{FlowGraph}
 use Rattle.matched_paths.specs.declared.flow_graph.Pair.{Pair}
 use Rattle.matched_paths.specs.Ends.{IsAmong}
 use Rattle.flow_index.specs.Positions.{IsLastPosition, Keys}
-use Rattle.flow_index.specs.Crossings.{AreGoalPositions, AreCallPositions}
-use Rattle.flow_index.specs.Ways.{AddsAll, Bridges, BridgesOver, Returns}
+use Rattle.flow_index.specs.Crossings.{AreEntryPositions, AreOutPositions, slot_of}
+use Rattle.flow_index.specs.Ways.{AddsAll, Bridges, BridgesOver, Enters}
 use Rattle.flow_index.proofs.Walking.{Walks, walk_begin, walk_step, walk_end}
 
 -- Ways that are so were added.
@@ -42,108 +42,108 @@ adds_from_all P Q a b same adds = record { more = adds.more; kept = adds.kept; n
 abbrev pub no_crossing : Crossing
 no_crossing = record { call = 0; from = 0; to = 0 }
 
-module _ (flow : FlowGraph) (keys : Keys) (from call out : ℕ) where
-  -- the close at the position is of another call or out, or its way was added
-  abbrev pub IsReturned : List (ℕ × ℕ) → ℕ → Type 0
-  IsReturned ways position =
-      let close = get_or flow.closes position no_crossing in
-      close.call ≡ call → close.from ≡ out → Contains ways (from, close.to)
+module _ (flow : FlowGraph) (keys : Keys) (to call goal : ℕ) where
+  -- the open at the position is of another call or goal, or its way was added
+  abbrev pub IsEntered : List (ℕ × ℕ) → ℕ → Type 0
+  IsEntered ways position =
+      let entry = get_or flow.opens position no_crossing in
+      entry.call ≡ call → entry.to ≡ goal → Contains ways (entry.from, to)
 
-  pub record Returning (start ways : List (ℕ × ℕ)) (next : Option ℕ) : Type 0 where
-    pub adds : Adds (Returns flow from call out) start ways
-    pub walks : Walks keys.keys (min call flow.vertices) next (IsReturned ways)
+  pub record Entering (start ways : List (ℕ × ℕ)) (next : Option ℕ) : Type 0 where
+    pub adds : Adds (Enters flow to call goal) start ways
+    pub walks : Walks keys.keys (slot_of keys.count call goal) next (IsEntered ways)
 
-  key_of : AreCallPositions flow keys → (position : ℕ) → position < length flow.closes → (position < length keys.keys) × (get_or keys.keys position 0 ≡ min (get_or flow.closes position no_crossing).call flow.vertices)
-  key_of are position within = (
-    rw (are.calls, length-map) within,
-    ap (λ (xs : List ℕ). get_or xs position 0) are.calls ∙ get_or-map (λ (c : Crossing). min c.call flow.vertices) flow.closes position no_crossing 0 within,
+  slot_at : AreEntryPositions flow keys → (position : ℕ) → position < length flow.opens → (position < length keys.keys) × (get_or keys.keys position 0 ≡ slot_of keys.count (get_or flow.opens position no_crossing).call (get_or flow.opens position no_crossing).to)
+  slot_at are position within = (
+    rw (are.slots, length-map) within,
+    ap (λ (xs : List ℕ). get_or xs position 0) are.slots ∙ get_or-map (λ (c : Crossing). slot_of keys.count c.call c.to) flow.opens position no_crossing 0 within,
   )
 
-  pub return_begin : (start : List (ℕ × ℕ)) (found : Option ℕ) → IsLastPosition keys.keys (min call flow.vertices) (length keys.keys) found → Returning start start found
-  return_begin start found is = record { adds = adds_none _ start; walks = walk_begin keys.keys _ found _ is }
+  pub enter_begin : (start : List (ℕ × ℕ)) (found : Option ℕ) → IsLastPosition keys.keys (slot_of keys.count call goal) (length keys.keys) found → Entering start start found
+  enter_begin start found is = record { adds = adds_none _ start; walks = walk_begin keys.keys _ found _ is }
 
-  pub return_within : (start ways : List (ℕ × ℕ)) (at : ℕ) (next : Option ℕ) → AreCallPositions flow keys → next ≡ Some at → Returning start ways next → at < length flow.closes
-  return_within start ways at next are some is =
-      let on = (subst (λ (n : Option ℕ). Walks keys.keys (min call flow.vertices) n (IsReturned ways)) some is.walks).on in
-      omega (arith, on.0, ap length are.calls, length-map flow.closes (λ (c : Crossing). min c.call flow.vertices))
+  pub enter_within : (start ways : List (ℕ × ℕ)) (at : ℕ) (next : Option ℕ) → AreEntryPositions flow keys → next ≡ Some at → Entering start ways next → at < length flow.opens
+  enter_within start ways at next are some is =
+      let on = (subst (λ (n : Option ℕ). Walks keys.keys (slot_of keys.count call goal) n (IsEntered ways)) some is.walks).on in
+      omega (arith, on.0, ap length are.slots, length-map flow.opens (λ (c : Crossing). slot_of keys.count c.call c.to))
 
-  pub return_step : (start ways after : List (ℕ × ℕ)) (at : ℕ) (next found : Option ℕ) → AreCallPositions flow keys → next ≡ Some at → Returning start ways next → IsLastPosition keys.keys (get_or keys.keys at 0) at found →
-      Adds (Returns flow from call out) ways after → IsReturned after at → Returning start after found
-  return_step start ways after at next found are some is last adds here = record {
+  pub enter_step : (start ways after : List (ℕ × ℕ)) (at : ℕ) (next found : Option ℕ) → AreEntryPositions flow keys → next ≡ Some at → Entering start ways next → IsLastPosition keys.keys (get_or keys.keys at 0) at found →
+      Adds (Enters flow to call goal) ways after → IsEntered after at → Entering start after found
+  enter_step start ways after at next found are some is last adds here = record {
     adds = adds_then _ start ways after is.adds adds;
-    walks = walk_step keys.keys _ at next found _ _ some is.walks last (λ position done same_call same_out. adds_keeps _ ways after _ adds (done same_call same_out)) here;
+    walks = walk_step keys.keys _ at next found _ _ some is.walks last (λ position done same_call same_goal. adds_keeps _ ways after _ adds (done same_call same_goal)) here;
   }
 
-  pub return_end : (start ways : List (ℕ × ℕ)) (next : Option ℕ) → AreCallPositions flow keys → next ≡ None → Returning start ways next → AddsAll (Returns flow from call out) start ways
-  return_end start ways next are none is = record {
+  pub enter_end : (start ways : List (ℕ × ℕ)) (next : Option ℕ) → AreEntryPositions flow keys → next ≡ None → Entering start ways next → AddsAll (Enters flow to call goal) start ways
+  enter_end start ways next are none is = record {
     more = is.adds.more;
     kept = is.adds.kept;
     new = is.adds.new;
-    all = λ way returns.
-        let position = returns.closed.0 in
-        let close : get_or flow.closes position no_crossing ≡ record { call = call; from = out; to = way.1 } = get_or_default flow.closes position no_crossing _ returns.closed.1 ∙ returns.closed.2 in
-        let key = key_of are position returns.closed.1 in
-        let added = walk_end keys.keys _ next _ none is.walks position key.0 (key.1 ∙ ap (λ (c : Crossing). min c.call flow.vertices) close) (ap (λ (c : Crossing). c.call) close) (ap (λ (c : Crossing). c.from) close) in
-        let same : (from, (get_or flow.closes position no_crossing).to) ≡ way = ap (λ (x : ℕ). (x, (get_or flow.closes position no_crossing).to)) (sym returns.begins) ∙ ap (λ (c : Crossing). (way.0, c.to)) close in
+    all = λ way enters.
+        let position = enters.opened.0 in
+        let entry : get_or flow.opens position no_crossing ≡ record { call = call; from = way.0; to = goal } = get_or_default flow.opens position no_crossing _ enters.opened.1 ∙ enters.opened.2 in
+        let key = slot_at are position enters.opened.1 in
+        let added = walk_end keys.keys _ next _ none is.walks position key.0 (key.1 ∙ ap (λ (c : Crossing). slot_of keys.count c.call c.to) entry) (ap (λ (c : Crossing). c.call) entry) (ap (λ (c : Crossing). c.to) entry) in
+        let same : ((get_or flow.opens position no_crossing).from, to) ≡ way = ap (λ (x : ℕ). ((get_or flow.opens position no_crossing).from, x)) (sym enters.ends) ∙ ap (λ (c : Crossing). (c.from, way.1)) entry in
         subst (λ (w : ℕ × ℕ). Contains ways w) same added;
   }
 
 module _ (flow : FlowGraph) (keys : Keys) (pair : Pair) where
-  -- the ways over the open at the position were added
+  -- the ways over the close at the position were added
   abbrev pub IsSpanned : List (ℕ × ℕ) → ℕ → Type 0
   IsSpanned ways position =
-      let entry = get_or flow.opens position no_crossing in
-      (way : ℕ × ℕ) → Returns flow entry.from entry.call pair.out way → Contains ways way
+      let close = get_or flow.closes position no_crossing in
+      (way : ℕ × ℕ) → Enters flow close.to close.call pair.goal way → Contains ways way
 
   pub record Spanning (start ways : List (ℕ × ℕ)) (next : Option ℕ) : Type 0 where
     pub adds : Adds (BridgesOver flow pair) start ways
-    pub walks : Walks keys.keys pair.goal next (IsSpanned ways)
+    pub walks : Walks keys.keys pair.out next (IsSpanned ways)
 
-  goal_of : AreGoalPositions flow keys → (position : ℕ) → position < length flow.opens → (position < length keys.keys) × (get_or keys.keys position 0 ≡ (get_or flow.opens position no_crossing).to)
-  goal_of are position within = (
-    rw (are.goals, length-map) within,
-    ap (λ (xs : List ℕ). get_or xs position 0) are.goals ∙ get_or-map (λ (c : Crossing). c.to) flow.opens position no_crossing 0 within,
+  out_of : AreOutPositions flow keys → (position : ℕ) → position < length flow.closes → (position < length keys.keys) × (get_or keys.keys position 0 ≡ (get_or flow.closes position no_crossing).from)
+  out_of are position within = (
+    rw (are.outs, length-map) within,
+    ap (λ (xs : List ℕ). get_or xs position 0) are.outs ∙ get_or-map (λ (c : Crossing). c.from) flow.closes position no_crossing 0 within,
   )
 
-  pub span_begin : (start : List (ℕ × ℕ)) (found : Option ℕ) → IsLastPosition keys.keys pair.goal (length keys.keys) found → Spanning start start found
+  pub span_begin : (start : List (ℕ × ℕ)) (found : Option ℕ) → IsLastPosition keys.keys pair.out (length keys.keys) found → Spanning start start found
   span_begin start found is = record { adds = adds_none _ start; walks = walk_begin keys.keys _ found _ is }
 
-  -- the ways over an open to the goal are bridges over the pair
-  span_over : AreGoalPositions flow keys → (at : ℕ) → at < length keys.keys → get_or keys.keys at 0 ≡ pair.goal → (way : ℕ × ℕ) →
-      Returns flow (get_or flow.opens at no_crossing).from (get_or flow.opens at no_crossing).call pair.out way → BridgesOver flow pair way
-  span_over are at inside key way returns =
-      let within : at < length flow.opens = omega (arith, inside, ap length are.goals, length-map flow.opens (λ (c : Crossing). c.to)) in
-      let entry = get_or flow.opens at no_crossing in
-      let to : entry.to ≡ pair.goal = sym (goal_of are at within).1 ∙ key in
-      let stands : Contains flow.opens entry = Contains-get_or flow.opens at no_crossing within in
+  -- the ways over a close from the out are bridges over the pair
+  span_over : AreOutPositions flow keys → (at : ℕ) → at < length keys.keys → get_or keys.keys at 0 ≡ pair.out → (way : ℕ × ℕ) →
+      Enters flow (get_or flow.closes at no_crossing).to (get_or flow.closes at no_crossing).call pair.goal way → BridgesOver flow pair way
+  span_over are at inside key way enters =
+      let within : at < length flow.closes = omega (arith, inside, ap length are.outs, length-map flow.closes (λ (c : Crossing). c.from)) in
+      let close = get_or flow.closes at no_crossing in
+      let from : close.from ≡ pair.out = sym (out_of are at within).1 ∙ key in
+      let stands : Contains flow.closes close = Contains-get_or flow.closes at no_crossing within in
       record {
-        call = entry.call;
-        opened = subst (λ (f : ℕ). Contains flow.opens (record { call = entry.call; from = f; to = pair.goal })) (sym returns.begins)
-            (subst (λ (t : ℕ). Contains flow.opens (record { call = entry.call; from = entry.from; to = t })) to stands);
-        closed = returns.closed;
+        call = close.call;
+        opened = enters.opened;
+        closed = subst (λ (t : ℕ). Contains flow.closes (record { call = close.call; from = pair.out; to = t })) (sym enters.ends)
+            (subst (λ (f : ℕ). Contains flow.closes (record { call = close.call; from = f; to = close.to })) from stands);
       }
 
-  pub span_step : (start ways after : List (ℕ × ℕ)) (at : ℕ) (d : Crossing) (next found : Option ℕ) → AreGoalPositions flow keys → next ≡ Some at → Spanning start ways next → IsLastPosition keys.keys (get_or keys.keys at 0) at found →
-      AddsAll (Returns flow (get_or flow.opens at no_crossing).from (get_or flow.opens at no_crossing).call pair.out) ways after → Spanning start after found
-  span_step start ways after at d next found are some is last added =
-      let on = (subst (λ (n : Option ℕ). Walks keys.keys pair.goal n (IsSpanned ways)) some is.walks).on in
+  pub span_step : (start ways after : List (ℕ × ℕ)) (at : ℕ) (next found : Option ℕ) → AreOutPositions flow keys → next ≡ Some at → Spanning start ways next → IsLastPosition keys.keys (get_or keys.keys at 0) at found →
+      AddsAll (Enters flow (get_or flow.closes at no_crossing).to (get_or flow.closes at no_crossing).call pair.goal) ways after → Spanning start after found
+  span_step start ways after at next found are some is last added =
+      let on = (subst (λ (n : Option ℕ). Walks keys.keys pair.out n (IsSpanned ways)) some is.walks).on in
       let adds = adds_from_all _ (BridgesOver flow pair) ways after (span_over are at on.0 on.1) added in
       record {
         adds = adds_then _ start ways after is.adds adds;
-        walks = walk_step keys.keys _ at next found _ _ some is.walks last (λ position done way returns. adds_keeps _ ways after way adds (done way returns)) added.all;
+        walks = walk_step keys.keys _ at next found _ _ some is.walks last (λ position done way enters. adds_keeps _ ways after way adds (done way enters)) added.all;
       }
 
-  pub span_end : (start ways : List (ℕ × ℕ)) (next : Option ℕ) → AreGoalPositions flow keys → next ≡ None → Spanning start ways next → AddsAll (BridgesOver flow pair) start ways
+  pub span_end : (start ways : List (ℕ × ℕ)) (next : Option ℕ) → AreOutPositions flow keys → next ≡ None → Spanning start ways next → AddsAll (BridgesOver flow pair) start ways
   span_end start ways next are none is = record {
     more = is.adds.more;
     kept = is.adds.kept;
     new = is.adds.new;
     all = λ way over.
-        let position = over.opened.0 in
-        let entry : get_or flow.opens position no_crossing ≡ record { call = over.call; from = way.0; to = pair.goal } = get_or_default flow.opens position no_crossing _ over.opened.1 ∙ over.opened.2 in
-        let key = goal_of are position over.opened.1 in
-        walk_end keys.keys _ next _ none is.walks position key.0 (key.1 ∙ ap (λ (c : Crossing). c.to) entry) way
-        (subst (λ (c : Crossing). Returns flow c.from c.call pair.out way) (sym entry) (record { begins = refl; closed = over.closed }));
+        let position = over.closed.0 in
+        let close : get_or flow.closes position no_crossing ≡ record { call = over.call; from = pair.out; to = way.1 } = get_or_default flow.closes position no_crossing _ over.closed.1 ∙ over.closed.2 in
+        let key = out_of are position over.closed.1 in
+        walk_end keys.keys _ next _ none is.walks position key.0 (key.1 ∙ ap (λ (c : Crossing). c.from) close) way
+        (subst (λ (c : Crossing). Enters flow c.to c.call pair.goal way) (sym close) (record { ends = refl; opened = over.opened }));
   }
 
 -- Ways over the first pairs were added.
@@ -170,13 +170,13 @@ bridging_more flow pairs ways after index d within is added = record {
   ];
 }
 
--- a pair whose goal is no vertex has no bridges
-pub over_none : (flow : FlowGraph) (pair : Pair) (ways : List (ℕ × ℕ)) → flow.vertices ≤ pair.goal → AddsAll (BridgesOver flow pair) ways ways
+-- a pair whose out is no vertex has no bridges
+pub over_none : (flow : FlowGraph) (pair : Pair) (ways : List (ℕ × ℕ)) → flow.vertices ≤ pair.out → AddsAll (BridgesOver flow pair) ways ways
 over_none flow pair ways beyond = record {
   more = [];
   kept = sym (append-nil ways);
   new = All-nil (BridgesOver flow pair);
-  all = λ way over. let below = (All-contains (IsAmong flow.vertices) flow.opens _ flow.within.opens over.opened).to in absurd (omega arith);
+  all = λ way over. let below = (All-contains (IsAmong flow.vertices) flow.closes _ flow.within.closes over.closed).from in absurd (omega arith);
 }
 
 pub bridging_end : (flow : FlowGraph) (pairs : List Pair) (ways : List (ℕ × ℕ)) (index : ℕ) → length pairs ≤ index → Bridging flow pairs ways index → (a b : ℕ) →

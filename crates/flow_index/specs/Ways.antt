@@ -27,10 +27,10 @@ pub record BridgesOver (flow : FlowGraph) (pair : Pair) (way : ℕ × ℕ) : Typ
   pub opened : HasOpen flow call way.0 pair.goal
   pub closed : HasClose flow call pair.out way.1
 
--- The way leads from this vertex to where the call closes the out.
-pub record Returns (flow : FlowGraph) (from call out : ℕ) (way : ℕ × ℕ) : Type 0 where
-  pub begins : way.0 ≡ from
-  pub closed : HasClose flow call out way.1
+-- The way leads to this vertex from where the call opens the goal.
+pub record Enters (flow : FlowGraph) (to call goal : ℕ) (way : ℕ × ℕ) : Type 0 where
+  pub ends : way.1 ≡ to
+  pub opened : HasOpen flow call way.0 goal
 
 -- A bridge over one of the pairs leads from a to b.
 pub record Bridges (flow : FlowGraph) (pairs : List Pair) (a b : ℕ) : Type 0 where

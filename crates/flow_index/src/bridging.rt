@@ -1,71 +1,81 @@
 //! The bridges over a list of pairs.
 
-ghost use Rattle.std.specs.Prelude.{ℕ, ◌≡◌, ◌<◌, ◌↔◌, IfOk, IsTrue, OnOk};
-ghost use Rattle.std.specs.List.{Contains};
-ghost use Rattle.flow_index.specs.Ways.{AddsAll, AreAmong, AreSteps, Bridges, BridgesOver, Returns};
-ghost use Rattle.flow_index.specs.Crossings.{AreCallPositions, AreGoalPositions, IsIndexOf};
+ghost use Rattle.std.specs.Prelude.{ℕ, ◌≡◌, ◌<◌, ◌↔◌, map, IfOk, IsTrue, OnOk};
+ghost use Rattle.std.specs.List.{All, Contains};
+ghost use Rattle.flow_index.specs.Ways.{AddsAll, AreAmong, AreSteps, Bridges, BridgesOver, Enters};
+ghost use Rattle.flow_index.specs.Crossings.{AreEntryPositions, IsIndexOf, slot_of};
 
 use crate::chains::Chains;
 use matched_paths::{Crossing, FlowGraph, Pair};
 use std::alloc::{AllocError, Global};
 
-/// Whether the close is of this call and leaves this out.
-fn closes(close: &Crossing, call: u32, out: u32) -> bool
-    ensures { IsTrue result ↔ ((close.now.call ≡ call) × (close.now.from ≡ out)) }
+/// Odd numbers near 2^32 divided by the golden ratio, and of well mixed bits.
+const CALL_FACTOR: u32 = 2_654_435_761;
+const GOAL_FACTOR: u32 = 2_246_822_507;
+
+/// The slot of the opens of a call to a goal. Others may have the same one.
+fn slot_for(call: u32, goal: u32, slots: u32) -> u32
+    requires { 0 < slots }
+    ensures slot { result ≡ slot_of slots call goal }
+    ensures below { result < slots }
 {
-    close.call == call && close.from == out
+    let by_call = call.wrapping_mul(CALL_FACTOR);
+    let by_goal = goal.wrapping_mul(GOAL_FACTOR);
+    by_call.wrapping_add(by_goal) % slots
 }
 
-/// Adds the ways from a vertex to where the call closes the out.
-fn add_returns(
-    flow: &FlowGraph,
-    by_call: &Chains,
-    from: u32,
-    call: u32,
-    out: u32,
-    ways: &mut Vec<(u32, u32)>,
-) -> Result<(), AllocError>
-    requires { AreCallPositions flow.now by_call.now }
-    ensures { OnOk result (AddsAll (Returns flow.now from call out) ways.old.items ways.new.items) }
+/// The slots of the opens.
+fn entry_slots(alloc: Global, opens: &[Crossing], slots: u32) -> Result<Vec<u32>, AllocError>
+    requires { 0 < slots }
+    ensures slots { IfOk result (λ keys.
+        keys.items ≡ map (λ entry. slot_of slots entry.call entry.to) opens.now) }
+    ensures below { IfOk result (λ keys. All (λ key. key < slots) keys.items) }
 {
-    let mut next = by_call.last(call.min(flow.vertices));
-    while let Some(position) = next {
-        let close = &flow.closes.items()[position as usize];
-        if closes(close, call, out) {
-            ways.push((from, close.to))?;
-        }
-        next = by_call.before(position);
+    let mut keys = Vec::with_capacity(alloc, opens.len())?;
+    for entry in opens {
+        keys.push(slot_for(entry.call, entry.to, slots))?;
     }
-    Ok(())
+    Ok(keys)
 }
 
-/// Adds the bridges over a pair.
-fn add_bridges(
+/// Whether the open is of this call and to this goal.
+fn enters(entry: &Crossing, call: u32, goal: u32) -> bool
+    ensures { IsTrue result ↔ ((entry.now.call ≡ call) × (entry.now.to ≡ goal)) }
+{
+    entry.call == call && entry.to == goal
+}
+
+/// Adds the ways to the end of a close from where its call opens the goal.
+fn add_entries(
     flow: &FlowGraph,
-    by_goal: &Chains,
-    by_call: &Chains,
-    pair: Pair,
+    by_entry: &Chains,
+    slots: u32,
+    close: Crossing,
+    goal: u32,
     ways: &mut Vec<(u32, u32)>,
 ) -> Result<(), AllocError>
-    requires goal { pair.goal < by_goal.now.count }
-    requires goals { AreGoalPositions flow.now by_goal.now }
-    requires calls { AreCallPositions flow.now by_call.now }
-    ensures { OnOk result (AddsAll (BridgesOver flow.now pair) ways.old.items ways.new.items) }
+    requires slots { slots ≡ by_entry.now.count }
+    requires entries { AreEntryPositions flow.now by_entry.now }
+    ensures { OnOk result
+        (AddsAll (Enters flow.now close.to close.call goal) ways.old.items ways.new.items) }
 {
-    let mut next = by_goal.last(pair.goal);
+    let mut next = by_entry.last(slot_for(close.call, goal, slots));
     while let Some(position) = next {
         let entry = &flow.opens.items()[position as usize];
-        add_returns(flow, by_call, entry.from, entry.call, pair.out, ways)?;
-        next = by_goal.before(position);
+        if enters(entry, close.call, goal) {
+            ways.push((entry.from, close.to))?;
+        }
+        next = by_entry.before(position);
     }
     Ok(())
 }
 
-/// The opens of a flow graph by their goals, and its closes by their calls.
+/// The closes of a flow graph by where they begin, and its opens by their calls and goals.
 #[derive(Drop)]
 pub struct CrossingIndex {
-    by_goal: Chains,
-    by_call: Chains,
+    by_out: Chains,
+    by_entry: Chains,
+    slots: u32,
 }
 
 impl CrossingIndex {
@@ -73,25 +83,28 @@ impl CrossingIndex {
     pub fn of(alloc: Global, flow: &FlowGraph) -> Result<CrossingIndex, AllocError>
         ensures { IfOk result (IsIndexOf flow.now) }
     {
-        let goals: Vec<u32> = flow
-            .opens
-            .items()
-            .iter()
-            .map(|entry| entry.to)
-            .collect(alloc)?;
-        let by_goal = Chains::of(alloc, flow.vertices as usize, goals)?;
-        let calls: Vec<u32> = flow
+        let outs: Vec<u32> = flow
             .closes
             .items()
             .iter()
-            .map(|close| close.call.min(flow.vertices))
+            .map(|close| close.from)
             .collect(alloc)?;
-        let by_call = Chains::of(alloc, flow.vertices as usize + 1, calls)?;
-        Ok(CrossingIndex { by_goal, by_call })
+        let by_out = Chains::of(alloc, flow.vertices as usize, outs)?;
+        let opens = flow.opens.items();
+        let Ok(slots) = u32::try_from(opens.len().max(1)) else {
+            return Err(AllocError); // A list of so many keys counts as want of memory.
+        };
+        let entries = entry_slots(alloc, opens, slots)?;
+        let by_entry = Chains::of(alloc, slots as usize, entries)?;
+        Ok(CrossingIndex {
+            by_out,
+            by_entry,
+            slots,
+        })
     }
 
-    /// Adds the bridges over a pair, in time linear in the opens to its goal, each with the closes
-    /// of its call.
+    /// Adds the bridges over a pair, in time linear in the closes from its out and in the bridges,
+    /// where few opens of other calls or goals share a slot.
     pub fn add_over(
         &self,
         flow: &FlowGraph,
@@ -101,10 +114,16 @@ impl CrossingIndex {
         requires { IsIndexOf flow.now self.now }
         ensures { OnOk result (AddsAll (BridgesOver flow.now pair) ways.old.items ways.new.items) }
     {
-        if pair.goal >= flow.vertices {
+        if pair.out >= flow.vertices {
             return Ok(());
         }
-        add_bridges(flow, &self.by_goal, &self.by_call, pair, ways)
+        let mut next = self.by_out.last(pair.out);
+        while let Some(position) = next {
+            let close = flow.closes.items()[position as usize];
+            add_entries(flow, &self.by_entry, self.slots, close, pair.goal, ways)?;
+            next = self.by_out.before(position);
+        }
+        Ok(())
     }
 }
 

@@ -1,9 +1,0 @@
-use Rattle.flow_index.proofs.Walking.{positions_left}
-use Rattle.flow_index.proofs.Adding.{Returning}
-use Rattle.flow_index.proofs.bridging.add_returns.Given as goal
-
-abbrev pub invariant-loop-next : goal.invariant-loop-next
-invariant-loop-next l = Returning l.flow l.by_call l.from l.call l.out l.fn.ways.items l.ways.items l.next
-
-abbrev pub decreases-loop-next : goal.decreases-loop-next
-decreases-loop-next l = positions_left l.next
