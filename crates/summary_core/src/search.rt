@@ -56,8 +56,8 @@ fn goals_met(alloc: Global, opens: &[Crossing], set: &VertexSet) -> Result<Vec<u
 
 /// What is found from the goal over the mirror's pairs.
 ///
-/// It takes time linear in the flow graph and in the opens to the goals of the pairs, each with
-/// the closes of its call.
+/// It takes time linear in the flow graph and in the closes of the outs of the pairs, each with
+/// the opens of its call to the goal.
 pub fn outs(
     alloc: Global,
     flow: &FlowGraph,
