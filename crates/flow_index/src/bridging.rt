@@ -9,8 +9,10 @@ use crate::chains::Chains;
 use matched_paths::{Crossing, FlowGraph, Pair};
 use std::alloc::{AllocError, Global};
 
-/// Odd numbers near 2^32 divided by the golden ratio, and of well mixed bits.
+/// An odd number near 2^32 divided by the golden ratio.
 const CALL_FACTOR: u32 = 2_654_435_761;
+
+/// Another odd number, of well mixed bits.
 const GOAL_FACTOR: u32 = 2_246_822_507;
 
 /// The slot of the opens of a call to a goal. Others may have the same one.
