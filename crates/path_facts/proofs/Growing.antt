@@ -1,31 +1,16 @@
 -- Sets of pairs that grow.
-use Rattle.std.proofs.Common.{◌≡◌, ◌≢◌, ℕ, ◌<◌, ◌⊎◌, inl, inr, Bool, true, false, List, [], ◌∷◌, ◌++◌, map, length, get_or, refl, sym, ap, ◌∙◌, arith, subst, append_assoc, length-append, cond, None}
+use Rattle.std.proofs.Common.{◌≡◌, ◌≢◌, ℕ, ◌<◌, ◌⊎◌, inl, inr, Bool, true, List, [], ◌∷◌, ◌++◌, map, length, get_or, refl, sym, ap, ◌∙◌, arith, subst, append_assoc, length-append, None}
 use Rattle.std.specs.List.{All, Contains}
-use Rattle.std.specs.BTreeSet.{insert_key}
-use Rattle.std.specs.BTreeSet as sorted
-use Rattle.std.specs.Ordering.{is_eq, nat_cmp, ordering_then}
-use Rattle.std.specs.Cmp.{IsTotalOrder}
-use Rattle.std.specs.declared.cmp.Ordering.{Ordering}
-use Rattle.std.proofs.lemmas.Cmp.{nat_cmp_total, on_total, then_total}
+use Rattle.std.specs.HashSet as bag
 use Rattle.std.proofs.Math.Seq.{get_or-append_seam}
 use Rattle.std.proofs.lemmas.Bool.{cases_lt}
 use Rattle.std.proofs.lemmas.List.{append-nil, map-append, length-map, get_or-map, get_or_default, get_or_append_left}
-use Rattle.std.proofs.lemmas.List.Elements.{All-append, All-weaker, All-nil, All-cons, All-push, All-contains, Contains-append_left, Contains-push, Contains-get_or}
+use Rattle.std.proofs.lemmas.List.Elements.{All-append, All-weaker, All-nil, All-cons, All-push, All-contains, All-contains_itself, Contains-append_left, Contains-push, Contains-get_or}
 use Rattle.std.proofs.lemmas.List.Quantifiers.{all_pairs_push}
-use Rattle.std.proofs.lemmas.Map.Lookups.{exact_pairs, exact_unsigned, CmpEqualImpliesEq}
-use Rattle.std.proofs.lemmas.Map.Views.{All-insert_key, btree_set_contains_iff}
 use Rattle.flow_index.specs.Positions.{IsLast, IsLastPosition}
 use Rattle.path_facts.specs.declared.pair_set.PairSet.{PairSet}
 use Rattle.path_facts.specs.PairSets.{Grows, IsKept, Meets, pair_at}
-
-abbrev pub pair_cmp : ℕ × ℕ → ℕ × ℕ → Ordering
-pair_cmp x y = ordering_then (nat_cmp x.0 y.0) (nat_cmp x.1 y.1)
-
-pub pair_total : IsTotalOrder pair_cmp
-pair_total = then_total (on_total (λ p. p.0) nat_cmp_total) (on_total (λ p. p.1) nat_cmp_total)
-
-pub pair_exact : CmpEqualImpliesEq pair_cmp
-pair_exact = exact_pairs nat_cmp nat_cmp exact_unsigned exact_unsigned
+use Rattle.path_facts.proofs.Hashing.{pair_eq, set_has, updated_new, updated_old, updated_only}
 
 pub grows_none : (IsSo : ℕ × ℕ → Type 0) (set : PairSet) → IsKept set → Grows IsSo set set
 grows_none IsSo set kept = record { kept = kept; count = refl; more = []; grown = sym (append-nil set.pairs.items); new = All-nil IsSo }
@@ -82,10 +67,10 @@ module _ (set : PairSet) (first : ℕ) (kept : IsKept set) where
 
 module _ (set : PairSet) (pair : ℕ × ℕ) (kept : IsKept set) where
   abbrev IsPassed : Type 0
-  IsPassed = sorted.contains pair_cmp set.passed pair ≡ true
+  IsPassed = bag.contains pair_eq set.passed pair ≡ true
 
   stands_passed : IsPassed → Contains set.pairs.items pair
-  stands_passed on = All-contains (Contains set.pairs.items) set.passed.keys pair kept.passed_stand ((btree_set_contains_iff pair_total pair_exact set.passed pair).0 on)
+  stands_passed on = All-contains (Contains set.pairs.items) set.passed.keys pair kept.passed_stand ((set_has set.passed pair).0 on)
 
   -- where a pair stands
   at_pair : (has : Contains set.pairs.items pair) → pair_at set has.0 ≡ pair
@@ -100,7 +85,7 @@ module _ (set : PairSet) (pair : ℕ × ℕ) (kept : IsKept set) where
       subst (λ (p : ℕ × ℕ). Contains set.pairs.items p) is (Contains-get_or set.pairs.items position (0, 0) within)
 
   -- it is not
-  pub has_passed : (position : ℕ) (d : ℕ × ℕ) (on : Bool) → IsLast set.by_first.keys pair.0 (length set.by_first.keys) position → ¬ ((get_or set.pairs.items position d).1 ≡ pair.1) → on ≡ sorted.contains pair_cmp set.passed pair →
+  pub has_passed : (position : ℕ) (d : ℕ × ℕ) (on : Bool) → IsLast set.by_first.keys pair.0 (length set.by_first.keys) position → ¬ ((get_or set.pairs.items position d).1 ≡ pair.1) → on ≡ bag.contains pair_eq set.passed pair →
       (on ≡ true → Contains set.pairs.items pair) × (Contains set.pairs.items pair → on ≡ true)
   has_passed position d on last differs is = (
     λ so. stands_passed (sym is ∙ so),
@@ -109,7 +94,7 @@ module _ (set : PairSet) (pair : ℕ × ℕ) (kept : IsKept set) where
           let within = last_within set pair.0 kept position last in
           let found : pair_at set position ≡ pair = ap (λ (k : ℕ). pair_at set k) (sym here) ∙ at_pair has in
           absurd (differs (ap (λ (p : ℕ × ℕ). p.1) (get_or_default set.pairs.items position d (0, 0) within ∙ found)))
-      | inr passed ↦ is ∙ (btree_set_contains_iff pair_total pair_exact set.passed pair).1 (subst (λ (p : ℕ × ℕ). Contains set.passed.keys p) (at_pair has) passed)
+      | inr passed ↦ is ∙ (set_has set.passed pair).1 (subst (λ (p : ℕ × ℕ). Contains set.passed.keys p) (at_pair has) passed)
     ],
   )
 
@@ -168,20 +153,19 @@ module _ (set : PairSet) (pair : ℕ × ℕ) (kept : IsKept set) where
 
     -- one behind others, of which the last is passed
     pub meets_further : (position : ℕ) (last : ℕ × ℕ) → last ≡ get_or set.pairs.items position last → IsLast set.by_first.keys pair.0 (length set.by_first.keys) position →
-        after.passed.keys ≡ insert_key pair_cmp set.passed.keys last → sorted.Updates pair_cmp set.passed after.passed last true → Meets set after pair
-    meets_further position last read is keys updates =
+        bag.Updates pair_eq set.passed after.passed last true → Meets set after pair
+    meets_further position last read is updates =
         let within = last_within set pair.0 kept position is in
         let own : last ≡ pair_at set position = read ∙ get_or_default set.pairs.items position last (0, 0) within in
         let stands : Contains set.pairs.items last = subst (λ (p : ℕ × ℕ). Contains set.pairs.items p) (sym own) (Contains-get_or set.pairs.items position (0, 0) within) in
-        meets_push (subst (λ (ks : List (ℕ × ℕ)). All (Contains set.pairs.items) ks) (sym keys) (All-insert_key pair_cmp last (Contains set.pairs.items) set.passed.keys kept.passed_stand stands)) old
+        meets_push
+        (All-weaker (Contains after.passed.keys) (Contains set.pairs.items)
+        (λ q has. elim (updated_only set.passed after.passed last updates q has) [
+          | inl same ↦ subst (λ (p : ℕ × ℕ). Contains set.pairs.items p) (sym same) stands
+          | inr old ↦ All-contains (Contains set.pairs.items) set.passed.keys q kept.passed_stand old
+        ]) after.passed.keys (All-contains_itself after.passed.keys))
+        (λ q has. updated_old set.passed after.passed last updates q has)
         (λ k inside begins. elim (before_last set pair.0 kept position is k inside begins) [
-          | inl here ↦ (btree_set_contains_iff pair_total pair_exact after.passed _).0 (subst (λ (p : ℕ × ℕ). sorted.contains pair_cmp after.passed p ≡ true) (own ∙ ap (λ (i : ℕ). pair_at set i) (sym here)) updates.1)
-          | inr passed ↦ old _ passed
+          | inl here ↦ subst (λ (p : ℕ × ℕ). Contains after.passed.keys p) (own ∙ ap (λ (i : ℕ). pair_at set i) (sym here)) (updated_new set.passed after.passed last updates)
+          | inr passed ↦ updated_old set.passed after.passed last updates _ passed
         ])
-      where
-        either : (b old : Bool) → old ≡ true → cond b true old ≡ true
-        either true old is_so = refl
-        either false old is_so = is_so
-
-        old : (q : ℕ × ℕ) → Contains set.passed.keys q → Contains after.passed.keys q
-        old q has = (btree_set_contains_iff pair_total pair_exact after.passed q).0 (updates.0 q ∙ either (is_eq (pair_cmp last q)) (sorted.contains pair_cmp set.passed q) ((btree_set_contains_iff pair_total pair_exact set.passed q).1 has))

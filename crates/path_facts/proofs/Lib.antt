@@ -1,3 +1,4 @@
+pub mod Hashing
 pub mod Growing
 pub mod Following
 pub mod Tabulating

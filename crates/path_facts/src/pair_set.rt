@@ -6,18 +6,18 @@ ghost use Rattle.path_facts.specs.PairSets.{IsKept, Meets};
 
 use flow_index::Chains;
 use std::alloc::{AllocError, Global};
-use std::collections::BTreeSet;
+use std::collections::HashSet;
 
 /// Pairs of numbers in the order in which they were met, each once, and the positions of those that
 /// begin with a number. After want of memory it is not to be used.
 ///
 /// Most first numbers have one pair, which is found at its position. Where a first number has more
-/// of them, those before the last are found in an ordered set.
+/// of them, those before the last are found by their hash.
 #[derive(Drop)]
 pub(crate) struct PairSet {
     pub(crate) pairs: Vec<(u32, u32)>,
     pub(crate) by_first: Chains,
-    passed: BTreeSet<(u32, u32)>,
+    passed: HashSet<(u32, u32)>,
 }
 
 impl PairSet {
@@ -30,7 +30,7 @@ impl PairSet {
         Ok(PairSet {
             pairs: Vec::new(alloc),
             by_first: Chains::new(alloc, count)?,
-            passed: BTreeSet::new(alloc),
+            passed: HashSet::new(alloc),
         })
     }
 

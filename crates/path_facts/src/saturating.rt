@@ -48,8 +48,8 @@ fn summaries(alloc: Global, outs: &VertexSet, facts: &[(u32, u32)]) -> Result<Ve
 /// The pairs of these goals and the outs to which matched paths lead from them, each once.
 ///
 /// A fact is met once. It is taken along the flat edges and bridges that leave its vertex, and a
-/// pair along the closes of its out, each with the opens of its call to the goal. Looking a fact up
-/// takes logarithmic time.
+/// pair along the closes of its out, each with the opens of its call to the goal. A fact is looked
+/// up by its hash.
 pub fn true_pairs(alloc: Global, flow: &FlowGraph, goals: &[u32]) -> Result<Vec<Pair>, AllocError>
     requires { All (IsGoal flow.now) goals.now }
     ensures sound { IfOk result (λ pairs. All

@@ -7,6 +7,10 @@ pub mod Wanting
 pub mod Changing
 pub mod Looking
 pub mod Knowing
+pub mod Marking
+pub mod Agendas
+pub mod Noting
+pub mod Landing
 pub mod Claiming
 pub mod Publishing
 pub mod Rising

@@ -4,5 +4,7 @@ pub mod Board
 pub mod Events
 pub mod Claiming
 pub mod Knowing
+pub mod Marking
+pub mod Agenda
 pub mod Sound
 pub mod Table

@@ -10,7 +10,8 @@ ghost use Rattle.summary_core.specs.Events.{Abandons, Claims, FindsNone, Publish
 ghost use Rattle.summary_core.specs.Events.{Flies, NoneFlies};
 ghost use Rattle.summary_core.specs.Table.{IsClosed};
 
-use crate::claims::{add_pairs, first_claimable, goals_among, position_of};
+use crate::agenda::{Agenda, Asker};
+use crate::claims::{add_pairs, goals_among, position_of};
 use crate::closed::Closed;
 use crate::found::{Found, Goal};
 use crate::known::Known;
@@ -35,12 +36,14 @@ pub struct Board {
     pub(crate) history: Vec<Pair>,
     known: Known,
     tasks: Vec<Task>,
+    agenda: Agenda,
 }
 
 impl Model for Board {
     ghost use Rattle.summary_core.specs.Board.{BoardState};
     ghost use Rattle.summary_core.specs.Sound.{IsKeptBoard};
     ghost use Rattle.summary_core.specs.Knowing.{KnowsFront};
+    ghost use Rattle.summary_core.specs.Agenda.{KeepsAgenda};
 
     ghost Value = { BoardState };
 
@@ -56,7 +59,12 @@ impl Model for Board {
       starts = board.starts;
       history = board.history.items;
       tasks = board.tasks.items;
-    }) × KnowsFront board.known board.history.items };
+    }) × KnowsFront board.known board.history.items × KeepsAgenda (record {
+      flow = board.flow.value;
+      starts = board.starts;
+      history = board.history.items;
+      tasks = board.tasks.items;
+    }) board.agenda };
 }
 
 impl Board {
@@ -70,12 +78,14 @@ impl Board {
         ensures { IfOk result (IsOpening flow.value starts) }
     {
         let tasks = wanted_tasks(alloc, &flow, starts.items())?;
+        let agenda = Agenda::new(alloc, tasks.len())?;
         Ok(Board {
             flow,
             starts,
             history: Vec::new(alloc),
             known: Known::new(alloc),
             tasks,
+            agenda,
         })
     }
 
@@ -100,17 +110,18 @@ impl Board {
     }
 
     /// Claims the least goal that is dirty and in no flight, for a search over the mirror; None
-    /// where there is none. It takes no memory.
+    /// where there is none. It takes no memory, and time logarithmic in the wanted goals.
     pub fn claim(&mut self, mirror: &Mirror) -> Option<Goal>
         requires { mirror.now ≡ self.old.history }
         ensures { MatchOption result (FindsNone self.old self.new)
             (λ goal. Claims self.old goal.vertex self.new) }
     {
         let _ = mirror;
-        let position = match first_claimable(&self.history, &self.tasks) {
+        let position = match self.agenda.marks.first() {
             Some(position) => position,
             None => return None,
         };
+        self.agenda.marks.put(position, false);
         let task = &mut self.tasks[position];
         task.flies = true;
         Some(Goal { vertex: task.goal })
@@ -118,7 +129,9 @@ impl Board {
 
     /// Publishes what was found from a goal in flight, and ends its flight.
     ///
-    /// Where memory is wanting the flight goes on.
+    /// Where memory is wanting the flight goes on. It takes time linear in what was found, in the
+    /// pairs that are new since a publication before, and in the goals that become dirty, each with
+    /// a look-up logarithmic in the wanted goals or the pairs.
     pub fn publish(&mut self, goal: Goal, found: Found) -> Result<(), AllocError>
         requires flies { Flies self.old goal.vertex }
         requires seen { found.seen ≤ length self.old.history }
@@ -132,10 +145,21 @@ impl Board {
         };
         let Found { outs, asked, seen } = found;
         self.known.take_up(&self.history)?;
+        let asker = Asker {
+            task: position,
+            seen,
+        };
+        self.agenda.note(&self.tasks, asker, asked.items())?;
+        let from = self.history.len();
         add_pairs(&mut self.history, &self.known, goal.vertex, outs.items())?;
+        let stamp = Stamp { seen, asked };
+        let stale = self.agenda.is_stale(&self.tasks, &stamp);
+        self.agenda.marks.put(position, stale);
         let task = &mut self.tasks[position];
-        task.stamp = Some(Stamp { seen, asked });
+        task.stamp = Some(stamp);
         task.flies = false;
+        self.agenda
+            .tell(&self.tasks, position, from, self.history.len());
         Ok(())
     }
 
@@ -147,6 +171,7 @@ impl Board {
         let Some(position) = position_of(&self.tasks, goal.vertex) else {
             unreachable!()
         };
+        self.agenda.marks.put(position, true);
         self.tasks[position].flies = false;
     }
 
@@ -163,6 +188,7 @@ impl Board {
             history: _,
             known: _,
             tasks,
+            agenda: _,
         } = self;
         let goals = goals_among(alloc, &tasks)?;
         let mut pairs = true_pairs(alloc, &flow, &goals)?;

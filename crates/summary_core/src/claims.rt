@@ -1,16 +1,15 @@
 //! What a board does with its tasks.
 
-ghost use Rattle.std.specs.Prelude.{◌≡◌, ◌<◌, ◌≤◌, ◌↔◌, length, slice_index_or};
-ghost use Rattle.std.specs.Prelude.{IfOk, IsTrue, MatchOption, OnErr, OnOk};
-ghost use Rattle.std.specs.List.{All, Contains};
+ghost use Rattle.std.specs.Prelude.{◌≡◌, ◌<◌, length, slice_index_or};
+ghost use Rattle.std.specs.Prelude.{IfOk, MatchOption, OnErr, OnOk};
+ghost use Rattle.std.specs.List.{All};
 ghost use Rattle.std.specs.List.Sorted.{IsStrictlyIncreasing};
-ghost use Rattle.summary_core.specs.Board.{goals_of, IsClaimable, IsStale};
+ghost use Rattle.summary_core.specs.Board.{goals_of};
 ghost use Rattle.summary_core.specs.Events.{AddsNew};
 ghost use Rattle.summary_core.specs.Knowing.{Knows};
-ghost use Rattle.summary_core.specs.Claiming.{HasFront, IsFirstClaimable, IsFront};
 
 use crate::known::Known;
-use crate::task::{Stamp, Task};
+use crate::task::Task;
 use matched_paths::Pair;
 use std::alloc::{AllocError, Global};
 
@@ -32,54 +31,6 @@ pub(crate) fn position_of(tasks: &[Task], goal: u32) -> Option<usize>
         Ok(position) => Some(position),
         Err(_) => None,
     }
-}
-
-/// Whether the goal was asked.
-fn asks(asked: &[u32], goal: u32) -> bool
-    requires { IsStrictlyIncreasing asked.now }
-    ensures { IsTrue result ↔ Contains asked.now goal }
-{
-    asked.binary_search(&goal).is_ok()
-}
-
-/// Whether a pair after those that the stamp's search saw begins at a goal that it asked.
-fn is_stale(history: &[Pair], stamp: &Stamp) -> bool
-    requires { IsFront history.now stamp.now }
-    ensures { IsTrue result ↔ IsStale history.now stamp.now }
-{
-    for position in stamp.seen as usize..history.len() {
-        if asks(stamp.asked.items(), history[position].goal) {
-            return true;
-        }
-    }
-    false
-}
-
-/// Whether the goal of the task is dirty and in no flight.
-fn is_claimable(history: &[Pair], task: &Task) -> bool
-    requires { HasFront history.now task.now }
-    ensures { IsTrue result ↔ IsClaimable history.now task.now }
-{
-    if task.flies {
-        return false;
-    }
-    match &task.stamp {
-        None => true,
-        Some(stamp) => is_stale(history, stamp),
-    }
-}
-
-/// The first task that is claimable.
-pub(crate) fn first_claimable(history: &[Pair], tasks: &[Task]) -> Option<usize>
-    requires { All (HasFront history.now) tasks.now }
-    ensures { IsFirstClaimable history.now tasks.now result }
-{
-    for (position, task) in tasks.iter().enumerate() {
-        if is_claimable(history, task) {
-            return Some(position);
-        }
-    }
-    None
 }
 
 /// Adds the pairs of the goal and these outs that do not stand in the history.

@@ -7,12 +7,12 @@ ghost use Rattle.summary_core.specs.Knowing.{Knows, KnowsFront};
 
 use matched_paths::Pair;
 use std::alloc::{AllocError, Global};
-use std::collections::BTreeSet;
+use std::collections::HashSet;
 
 /// The first pairs of a history, by goal and out. It is behind until it takes up the rest.
 #[derive(Drop)]
 pub(crate) struct Known {
-    pairs: BTreeSet<(u32, u32)>,
+    pairs: HashSet<(u32, u32)>,
     taken: usize,
 }
 
@@ -22,7 +22,7 @@ impl Known {
         ensures { (history : List PairValue) → KnowsFront result history }
     {
         Known {
-            pairs: BTreeSet::new(alloc),
+            pairs: HashSet::new(alloc),
             taken: 0,
         }
     }

@@ -2,12 +2,14 @@
 //! any order.
 #![tactic(auto)]
 
+mod agenda;
 mod board;
 mod claims;
 mod closed;
 mod found;
 mod known;
 pub mod laws;
+mod marks;
 mod mirror;
 mod search;
 mod task;

@@ -21,6 +21,21 @@ struct Flight {
     found: Found,
 }
 
+/// A method that calls another: 0 opens 1, which opens 3, and 4 closes to 2, which closes to 5.
+fn calls_another(alloc: Global) -> Result<FlowGraph, Fail> {
+    let mut opens = Vec::new(alloc);
+    let mut closes = Vec::new(alloc);
+    for (call, from, to) in [(0, 0, 1), (1, 1, 3)] {
+        opens.push(Crossing { call, from, to })?;
+    }
+    for (call, from, to) in [(0, 2, 5), (1, 4, 2)] {
+        closes.push(Crossing { call, from, to })?;
+    }
+    let flat = Vec::from_slice(alloc, &[(3, 4)])?;
+    let flow = FlowGraph::new(6, List::of(flat), List::of(opens), List::of(closes));
+    Ok(flow.ok_or("an end is no vertex")?)
+}
+
 /// A method that calls itself: from 1 and 3 to 2, and back from 2 to 3.
 fn calls_itself(alloc: Global) -> Result<FlowGraph, Fail> {
     let mut opens = Vec::new(alloc);
@@ -40,13 +55,12 @@ fn calls_itself(alloc: Global) -> Result<FlowGraph, Fail> {
     Ok(flow.ok_or("an end is no vertex")?)
 }
 
-/// The graph, and its board for the start 1.
-fn opened(alloc: Global) -> Result<(Arc<FlowGraph>, Board), Fail>
+/// The graph, and its board for the start.
+fn opened(alloc: Global, flow: FlowGraph, start: u32) -> Result<(Arc<FlowGraph>, Board), Fail>
     ensures flow { IfOk result (λ both. both.1.flow ≡ both.0.value) }
     ensures history { IfOk result (λ both. both.1.history ≡ []) }
 {
-    let flow = calls_itself(alloc)?;
-    let starts = List::of(Vec::from_slice(alloc, &[1])?);
+    let starts = List::of(Vec::from_slice(alloc, &[start])?);
     if !may_be_closed(&flow, starts.items()) {
         return Err(Fail::from("a start is no vertex"));
     }
@@ -95,12 +109,12 @@ fn land(board: &mut Board, mirror: &Mirror, flight: Flight) -> Result<(), AllocE
     Ok(())
 }
 
-/// The goal 1 leads to the out 2 and asks itself.
-fn check(rt: &impl Abort, flight: &Flight, seen: u64) {
-    assert_eq!(rt; flight.goal.vertex, 1);
-    assert_eq!(rt; flight.found.outs.items(), [2].as_slice());
-    assert_eq!(rt; flight.found.asked.items(), [1].as_slice());
-    assert_eq!(rt; flight.found.seen, seen);
+/// The flight went as planned.
+fn check(rt: &impl Abort, flight: &Flight, plan: &Plan) {
+    assert_eq!(rt; flight.goal.vertex, plan.goal);
+    assert_eq!(rt; flight.found.outs.items(), plan.outs);
+    assert_eq!(rt; flight.found.asked.items(), plan.asked);
+    assert_eq!(rt; flight.found.seen, plan.seen);
 }
 
 /// Gives up a flight, and what was found.
@@ -137,71 +151,104 @@ fn end_flight(
     }
 }
 
-/// What a flight sees, in pairs, and whether it lands or turns back.
+/// Whether a flight lands or turns back, and what it finds over how many pairs.
 #[derive(Clone, Copy)]
 struct Plan {
     lands: bool,
+    goal: u32,
+    outs: &'static [u32],
+    asked: &'static [u32],
     seen: u64,
 }
 
-/// The flights from the goal 1. After them no goal is dirty, and one pair stands.
-fn fly_all(rt: &impl Abort, alloc: Global, plans: &[Plan]) -> Result<(), Fail> {
-    let (flow, mut board) = opened(alloc)?;
+/// The flights. After them no goal is dirty, and so many pairs stand.
+fn fly_all(
+    rt: &impl Abort,
+    alloc: Global,
+    flow: FlowGraph,
+    start: u32,
+    plans: &[Plan],
+    pairs: usize,
+) -> Result<(), Fail> {
+    let (flow, mut board) = opened(alloc, flow, start)?;
     let mut mirror = Mirror::new(alloc);
     for plan in plans {
         let Some(flight) = take_off(alloc, &flow, &mut board, &mut mirror)? else {
             return Err(Fail::from("no goal is dirty"));
         };
-        check(rt, &flight, plan.seen);
+        check(rt, &flight, plan);
         end_flight(&mut board, &mirror, flight, plan.lands)?;
     }
     let last = take_off(alloc, &flow, &mut board, &mut mirror)?;
     assert!(rt; last.is_none());
-    assert_eq!(rt; mirror.pairs().len(), 1);
+    assert_eq!(rt; mirror.pairs().len(), pairs);
     Ok(())
+}
+
+/// From the goal 1 to the out 2; it asks itself.
+fn of_itself(lands: bool, seen: u64) -> Plan {
+    Plan {
+        lands,
+        goal: 1,
+        outs: &[2],
+        asked: &[1],
+        seen,
+    }
 }
 
 #[test]
 fn a_goal_that_asks_itself_is_searched_twice(rt: HostRuntime) -> Result<(), Fail> {
-    let plans = [
-        Plan {
-            lands: true,
-            seen: 0,
-        },
-        Plan {
-            lands: true,
-            seen: 1,
-        },
-    ];
-    fly_all(&rt, rt.alloc(), &plans)
+    let flow = calls_itself(rt.alloc())?;
+    let plans = [of_itself(true, 0), of_itself(true, 1)];
+    fly_all(&rt, rt.alloc(), flow, 1, &plans, 1)
 }
 
 #[test]
 fn every_second_flight_may_turn_back(rt: HostRuntime) -> Result<(), Fail> {
+    let flow = calls_itself(rt.alloc())?;
+    let plans = [
+        of_itself(false, 0),
+        of_itself(true, 0),
+        of_itself(false, 1),
+        of_itself(true, 1),
+    ];
+    fly_all(&rt, rt.alloc(), flow, 1, &plans, 1)
+}
+
+// The goal 1 asks 3, and is searched again once a pair of 3 stands.
+#[test]
+fn a_goal_is_dirty_again_once_what_it_asked_has_a_pair(rt: HostRuntime) -> Result<(), Fail> {
+    let flow = calls_another(rt.alloc())?;
     let plans = [
         Plan {
-            lands: false,
+            lands: true,
+            goal: 1,
+            outs: &[],
+            asked: &[3],
             seen: 0,
         },
         Plan {
             lands: true,
+            goal: 3,
+            outs: &[4],
+            asked: &[],
             seen: 0,
         },
         Plan {
-            lands: false,
-            seen: 1,
-        },
-        Plan {
             lands: true,
+            goal: 1,
+            outs: &[2],
+            asked: &[3],
             seen: 1,
         },
     ];
-    fly_all(&rt, rt.alloc(), &plans)
+    fly_all(&rt, rt.alloc(), flow, 0, &plans, 2)
 }
 
 #[test]
 fn an_abandoned_goal_is_claimed_again(rt: HostRuntime) -> Result<(), Fail> {
-    let (_flow, mut board) = opened(rt.alloc())?;
+    let flow = calls_itself(rt.alloc())?;
+    let (_flow, mut board) = opened(rt.alloc(), flow, 1)?;
     let mirror = Mirror::new(rt.alloc());
     let Some(goal) = board.claim(&mirror) else {
         return Err(Fail::from("no goal is dirty"));

@@ -1,9 +1,10 @@
 use Rattle.std.proofs.Common.{ℕ, ◌∷◌, [], ◌++◌, length, true, Option, ap, sym, ◌∙◌, subst}
 use Rattle.std.specs.List.{Contains}
-use Rattle.std.specs.BTreeSet as sorted
+use Rattle.std.specs.HashSet as bag
 use Rattle.flow_index.specs.Positions.{IsLastPosition}
 use Rattle.path_facts.specs.declared.pair_set.PairSet.{PairSet}
-use Rattle.path_facts.proofs.Growing.{meets_first, meets_further, meets_known, pair_cmp}
+use Rattle.path_facts.proofs.Growing.{meets_first, meets_further, meets_known}
+use Rattle.path_facts.proofs.Hashing.{pair_eq}
 use Rattle.path_facts.proofs.pair_set.PairSet.meet.Goals as goal
 use Rattle.path_facts.proofs.pair_set.PairSet.meet.Goals.{in-Some+in_ok-insert, in_default}
 
@@ -23,8 +24,7 @@ returns c =
           (c.push-2.ensures.count ∙ ap (λ (s : PairSet). s.by_first.count) w.self-is)
           (c.in_ok-push-2.ensures.ok ∙ ap (λ (s : PairSet). s.by_first.keys ++ c.args.first ∷ []) w.self-is)
           w.in-Some.position w.index.result.now w.index.ensures last
-          (ap (λ (s : PairSet). s.passed.keys) w.self-is ∙ w.in_ok-insert.ensures.keys)
-          (subst (λ (s : PairSet). sorted.Updates pair_cmp set.passed s.passed w.index.result.now true) (sym w.self-is) w.in_ok-insert.ensures.updates)
+          (subst (λ (s : PairSet). bag.Updates pair_eq set.passed s.passed w.index.result.now true) (sym w.self-is) w.in_ok-insert.ensures.updates)
       | in_default w ↦
           let none = subst (λ (found : Option ℕ). IsLastPosition set.by_first.keys c.args.first (length set.by_first.keys) found) w.in_default.is c.last.ensures in
           meets_first set pair c.requires.kept _ fresh
