@@ -1,0 +1,6 @@
+-- What contracts of this crate say, in the order of reading.
+pub mod Plans
+pub mod Edges
+pub mod Jumping
+pub mod Tables
+pub mod Steps

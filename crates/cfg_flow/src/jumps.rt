@@ -1,0 +1,67 @@
+//! The jumps of a plan, by their constructs.
+
+ghost use Rattle.std.specs.Prelude.{ℕ, List, IfOk};
+ghost use Rattle.cfg_flow.specs.declared.plan.Jump.{Jump};
+ghost use Rattle.cfg_flow.specs.Jumping.{AreAhead, AreAllAhead, AreMarksAt, AreTaken};
+
+use crate::plan;
+use cfg_rules::Marks;
+use smallvec::SmallVec;
+use std::alloc::{AllocError, Global};
+
+/// The jumps of one construct.
+#[derive(Drop)]
+pub(crate) struct Jumps {
+    /// The JUMP_TARGETs to which it jumps.
+    pub targets: Marks,
+    /// The `break`s that leave it.
+    pub breaks: Marks,
+    /// The `continue`s that end its body.
+    pub continues: Marks,
+}
+
+/// The jumps of the constructs that are still to be joined, those of the next one last.
+#[derive(Drop)]
+pub(crate) struct Ahead {
+    pub targets: Vec<plan::Jump>,
+    pub breaks: Vec<plan::Jump>,
+    pub continues: Vec<plan::Jump>,
+}
+
+/// The jumps in the order of their constructs.
+pub(crate) fn in_order(mut jumps: Vec<plan::Jump>) -> Vec<plan::Jump>
+    ensures { (x : ℕ) → AreAhead jumps.items x result.items }
+{
+    jumps.sort_unstable_by_key(|jump| jump.construct);
+    jumps
+}
+
+/// Takes the marks of the construct out of the jumps, which are those of no construct above it.
+fn take_marks(alloc: Global, ahead: &mut Vec<plan::Jump>, x: u32) -> Result<Marks, AllocError>
+    ensures { IfOk result (λ marks. (all : List Jump) → AreAhead all (x + 1) ahead.old.items →
+        AreTaken all x marks.items ahead.new.items) }
+{
+    let mut marks = SmallVec::new(alloc);
+    while let Some(jump) = ahead.last().copied() {
+        if jump.construct < x {
+            break;
+        }
+        if jump.construct == x {
+            marks.push(jump.mark)?;
+        }
+        ahead.pop();
+    }
+    Ok(marks)
+}
+
+impl Ahead {
+    /// Takes the jumps of the construct out: it comes next.
+    pub(crate) fn take(&mut self, alloc: Global, x: u32) -> Result<Jumps, AllocError>
+    {
+        Ok(Jumps {
+            targets: take_marks(alloc, &mut self.targets, x)?,
+            breaks: take_marks(alloc, &mut self.breaks, x)?,
+            continues: take_marks(alloc, &mut self.continues, x)?,
+        })
+    }
+}
