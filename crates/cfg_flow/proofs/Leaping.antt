@@ -1,6 +1,7 @@
 -- Jumps taken off the end of a list in order.
-use Rattle.std.proofs.Common.{ℕ, zero, suc, ◌≡◌, ◌+◌, ◌-◌, ◌<◌, ◌≤◌, ◌↔◌, ◌⊎◌, inl, inr, List, [], ◌∷◌, ◌++◌, length, get_or, take, Bool, true, false, cond, refl, sym, ◌∙◌, ap, subst, arith, length-append}
+use Rattle.std.proofs.Common.{ℕ, zero, suc, ◌≡◌, ◌+◌, ◌-◌, ◌<◌, ◌≤◌, ◌↔◌, ◌⊎◌, inl, inr, List, [], ◌∷◌, ◌++◌, length, get_or, take, Bool, true, false, cond, Option, Some, None, slice_get, refl, sym, ◌∙◌, ap, subst, arith, length-append}
 use Rattle.std.specs.Prelude.{◌==◌}
+use Rattle.std.proofs.lemmas.Option.{get_or_from_slice_get, slice_get-get_or, none-some}
 use Rattle.std.specs.List.Sorted.{IsNonDecreasingBy}
 use Rattle.std.proofs.lemmas.Bool.{eqb-true, eqb-false, eq-eqb}
 use Rattle.std.proofs.lemmas.List.{get_or_append_left, get_or_default}
@@ -8,8 +9,8 @@ use Rattle.cfg_rules.specs.Member.{IsIn}
 use Rattle.cfg_rules.proofs.Members.{in_left, in_right, in_either}
 use Rattle.cfg_flow.specs.declared.plan.Jump.{Jump}
 use Rattle.cfg_flow.specs.Plans.{marks_at}
-use Rattle.cfg_flow.specs.Jumping.{AreAhead, AreTaken}
-use Rattle.cfg_flow.proofs.Members.{contains, is_in, in_one, one_in}
+use Rattle.cfg_flow.specs.Jumping.{AreAhead, AreTaken, AreNoneFrom, IsLastFrom}
+use Rattle.cfg_flow.proofs.Members.{contains, is_in, in_one, one_in, none_in}
 
 abbrev pub jump : ℕ → ℕ → Jump
 jump x m = record { construct = x; mark = m }
@@ -106,13 +107,20 @@ taking_all all x marks left none t = record {
   left = record { below = t.below; among = t.among; rise = t.rise };
 }
 
--- None is left where the last is of a construct below x.
-pub none_left : (x : ℕ) (left : List Jump) (j : Jump) → 0 < length left → get_or left (length left - 1) j ≡ j → j.construct < x → IsNonDecreasingBy (λ (k : Jump). k.construct) left → (m : ℕ) → ¬ (IsIn left (jump x m))
-none_left x left j some last low r m i = by (contains left (jump x m) i) where
-  by : (k : ℕ) × (k < length left) × (get_or left k (jump x m) ≡ jump x m) → ⊥
-  by (k, within, e) =
-      let h : (get_or left k j).construct ≤ (get_or left (length left - 1) j).construct = r k (length left - 1) j (omega arith) (omega arith) in
-      let same : get_or left k j ≡ get_or left k (jump x m) = get_or_default left k j (jump x m) within in
-      let at : (get_or left k j).construct ≡ x = ap (λ (v : Jump). v.construct) (same ∙ e) in
-      let end : (get_or left (length left - 1) j).construct ≡ j.construct = ap (λ (v : Jump). v.construct) last in
+-- None is left of x or above where the last is of a construct below x.
+pub none_from : (x : ℕ) (left : List Jump) (j : Jump) → slice_get left (length left - 1) ≡ Some j → j.construct < x → AreNoneFrom x left
+none_from x left j last low = record { none = λ r k i. by r k (contains left k i) } where
+  by : IsNonDecreasingBy (λ (k : Jump). k.construct) left → (k : Jump) → (i : ℕ) × (i < length left) × (get_or left i k ≡ k) → k.construct < x
+  by r k (i, within, e) =
+      let h : (get_or left i k).construct ≤ (get_or left (length left - 1) k).construct = r i (length left - 1) k (omega arith) (omega arith) in
+      let end : get_or left (length left - 1) k ≡ j = get_or_from_slice_get left (length left - 1) j k last in
+      let at : (get_or left i k).construct ≡ k.construct = ap (λ (v : Jump). v.construct) e in
+      let top : (get_or left (length left - 1) k).construct ≡ j.construct = ap (λ (v : Jump). v.construct) end in
       omega arith
+
+pub none_of_none : (x : ℕ) (left : List Jump) → slice_get left (length left - 1) ≡ None → AreNoneFrom x left
+none_of_none x [] last = record { none = λ r k i. absurd (none_in [] k refl i) }
+none_of_none x (j ∷ js) last = record { none = λ r k i. absurd (none-some (get_or (j ∷ js) (length (j ∷ js) - 1) j) (sym last ∙ slice_get-get_or (j ∷ js) (length (j ∷ js) - 1) j (omega arith))) }
+
+pub taking_end : (all : List Jump) (x : ℕ) (marks : List ℕ) (left : List Jump) → AreNoneFrom x left → AreTaking all x marks left → AreTaken all x marks left
+taking_end all x marks left none t = taking_all all x marks left (λ m i. let low : x < x = none.none t.rise (jump x m) i in omega arith) t

@@ -1,2 +1,5 @@
 pub mod Members
 pub mod Leaping
+pub mod Placing
+pub mod Siting
+pub mod Joining

@@ -4,3 +4,4 @@ pub mod Edges
 pub mod Jumping
 pub mod Tables
 pub mod Steps
+pub mod Works

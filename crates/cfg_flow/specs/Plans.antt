@@ -38,13 +38,12 @@ pub record HasParts (row : Row) (count : ℕ) : Type 0 where
   pub forward : row.from ≤ row.to
   pub within : row.to ≤ count
 
--- A plan whose flow is asked for: its constructs are a plan, each is numbered before its parts,
--- which are constructs of the plan, and all numbers are nodes' numbers.
+-- A plan whose flow is asked for: its constructs are a plan, each part of a construct is a construct
+-- after it, and their numbers are numbers of nodes.
 pub record IsFlat (plan : Plan) : Type 0 where
   pub plan_is : IsPlan (constructs plan)
-  pub downward : (x k c : ℕ) → part (constructs plan) x k ≡ Some c → x < c
-  pub inside : (k c : ℕ) → slice_get plan.parts.items k ≡ Some (Some c) →
-      c < length plan.rows.items
+  pub parts_follow : (x k c : ℕ) → part (constructs plan) x k ≡ Some c →
+      (x < c) × (c < length plan.rows.items)
   pub listed : (x : ℕ) (row : Row) → slice_get plan.rows.items x ≡ Some row →
       HasParts row (length plan.parts.items)
-  pub few : length plan.rows.items ≤ 2 ^ 32
+  pub few : length plan.rows.items < 2 ^ 32

@@ -46,3 +46,8 @@ abbrev pub JoinsSite : Site → Jumps → List Summary → Arrival → Joined �
 JoinsSite site jumps before next old new after = (plan : List Construct) → IsPlan plan →
     IsSite plan site jumps → AreReady plan site.x 0 before →
     IsJoinedAt plan site.x next old new after
+
+-- The same, whatever jumps the site has.
+abbrev pub JoinsByParts : Site → List Summary → Arrival → Joined → Joined → List Summary → Type 0
+JoinsByParts site before next old new after =
+    (jumps : Jumps) → JoinsSite site jumps before next old new after

@@ -1,8 +1,10 @@
 //! The jumps of a plan, by their constructs.
 
-ghost use Rattle.std.specs.Prelude.{ℕ, List, IfOk};
+ghost use Rattle.std.specs.Prelude.{ℕ, ◌+◌, List, IfOk, MatchOption};
 ghost use Rattle.cfg_flow.specs.declared.plan.Jump.{Jump};
-ghost use Rattle.cfg_flow.specs.Jumping.{AreAhead, AreAllAhead, AreMarksAt, AreTaken};
+ghost use Rattle.cfg_flow.specs.declared.plan.Plan.{Plan};
+ghost use Rattle.cfg_flow.specs.Jumping.{AreAhead, AreAllTaken, AreNoneFrom, AreTaken};
+ghost use Rattle.cfg_flow.specs.Jumping.{IsAhead, IsLastFrom};
 
 use crate::plan;
 use cfg_rules::Marks;
@@ -36,16 +38,21 @@ pub(crate) fn in_order(mut jumps: Vec<plan::Jump>) -> Vec<plan::Jump>
     jumps
 }
 
-/// Takes the marks of the construct out of the jumps, which are those of no construct above it.
+/// The last jump, if its construct is `x` or one above it.
+fn last_from(jumps: &[plan::Jump], x: u32) -> Option<plan::Jump>
+    ensures { MatchOption result (AreNoneFrom x jumps.now) (IsLastFrom x jumps.now) }
+{
+    let jump = *jumps.last()?;
+    if jump.construct < x { None } else { Some(jump) }
+}
+
+/// Takes the marks of the construct out of the jumps, and passes over those of later ones.
 fn take_marks(alloc: Global, ahead: &mut Vec<plan::Jump>, x: u32) -> Result<Marks, AllocError>
     ensures { IfOk result (λ marks. (all : List Jump) → AreAhead all (x + 1) ahead.old.items →
         AreTaken all x marks.items ahead.new.items) }
 {
     let mut marks = SmallVec::new(alloc);
-    while let Some(jump) = ahead.last().copied() {
-        if jump.construct < x {
-            break;
-        }
+    while let Some(jump) = last_from(ahead.as_slice(), x) {
         if jump.construct == x {
             marks.push(jump.mark)?;
         }
@@ -57,6 +64,8 @@ fn take_marks(alloc: Global, ahead: &mut Vec<plan::Jump>, x: u32) -> Result<Mark
 impl Ahead {
     /// Takes the jumps of the construct out: it comes next.
     pub(crate) fn take(&mut self, alloc: Global, x: u32) -> Result<Jumps, AllocError>
+        ensures { IfOk result (λ taken. (plan : Plan) → IsAhead plan (x + 1) self.old →
+            AreAllTaken plan x taken self.new) }
     {
         Ok(Jumps {
             targets: take_marks(alloc, &mut self.targets, x)?,

@@ -3,7 +3,7 @@
 ghost use Rattle.std.specs.Prelude.{◌≡◌, IfOk, Some, length};
 ghost use Rattle.cfg_flow.specs.Tables.{IsContinued, IsGap, IsTaken, part_in};
 
-use cfg_rules::Summary;
+use cfg_rules::{Marks, Summary};
 use smallvec::SmallVec;
 use std::alloc::{AllocError, Global};
 use std::mem;
@@ -32,7 +32,8 @@ pub(crate) fn gaps(alloc: Global, count: usize) -> Result<Vec<Summary>, AllocErr
 
 /// Takes the summary of a construct out of the table, if it is there.
 fn take(alloc: Global, x: usize, table: &mut [Summary]) -> Summary
-    ensures { IsTaken (Some x) table.old result table.new }
+    ensures taken { IsTaken (Some x) table.old result table.new }
+    ensures count { length table.new ≡ length table.old }
 {
     if x < table.len() {
         mem::replace(&mut table[x], gap(alloc))
@@ -48,7 +49,8 @@ pub(crate) fn take_part(
     k: usize,
     table: &mut [Summary],
 ) -> Summary
-    ensures { IsTaken (part_in parts.now k) table.old result table.new }
+    ensures taken { IsTaken (part_in parts.now k) table.old result table.new }
+    ensures count { length table.new ≡ length table.old }
 {
     match parts.get(k) {
         Some(Some(part)) => take(alloc, *part as usize, table),
@@ -56,24 +58,10 @@ pub(crate) fn take_part(
     }
 }
 
-/// Takes the summaries of all parts out.
-pub(crate) fn take_parts(
-    alloc: Global,
-    parts: &[Option<u32>],
-    table: &mut [Summary],
-) -> Result<Vec<Summary>, AllocError>
-{
-    let mut taken = Vec::new(alloc);
-    for k in 0..parts.len() {
-        taken.push(take_part(alloc, parts, k, table))?;
-    }
-    Ok(taken)
-}
-
 /// The part with the `continue`s that end it among its last marks.
-pub(crate) fn continued(mut part: Summary, continues: &[u32]) -> Result<Summary, AllocError>
-    ensures { IfOk result (λ body. IsContinued part continues.now body) }
+pub(crate) fn continued(mut part: Summary, continues: &Marks) -> Result<Summary, AllocError>
+    ensures { IfOk result (λ body. IsContinued part continues.now.items body) }
 {
-    part.last.extend_from_slice(continues)?;
+    part.last.extend_from_slice(continues.as_slice())?;
     Ok(part)
 }

@@ -62,6 +62,7 @@ fn edges(alloc: Global, sketch: &Sketch<'_>) -> Result<Vec<Arrow>, Fail> {
 }
 
 const NAME: Drawn<'static> = (Rule::Primary, &[]);
+
 const UNWALKED: Drawn<'static> = (Rule::Silent, &[]);
 
 // `void g(void) { r = a && b || c ? d : e; }`.

@@ -1,12 +1,15 @@
 //! The flow of a plan, from the parts upwards.
 
-ghost use Rattle.std.specs.Prelude.{IfOk};
-ghost use Rattle.cfg_flow.specs.Plans.{IsFlat, constructs};
+ghost use Rattle.std.specs.Prelude.{◌≡◌, ◌<◌, ◌+◌, IfOk, OnOk, length, slice_range};
+ghost use Rattle.cfg_flow.specs.declared.plan.Plan.{Plan};
+ghost use Rattle.cfg_flow.specs.Plans.{HasParts, IsFlat, constructs};
 ghost use Rattle.cfg_flow.specs.Edges.{AreFlow};
+ghost use Rattle.cfg_flow.specs.Works.{AreJoinedFrom, IsReadOf};
 
 use crate::jumps::{Ahead, in_order};
 use crate::order::put_in_order;
-use crate::plan::{Plan, Row};
+use crate::plan;
+use crate::plan::Row;
 use crate::site::Site;
 use crate::table::gaps;
 use cfg_rules::{Joined, Summary};
@@ -32,14 +35,23 @@ struct Work {
 }
 
 impl<'a> Function<'a> {
-    fn parts_of(&self, row: Row) -> &'a [Option<u32>] {
+    fn parts_of(&self, row: Row) -> &'a [Option<u32>]
+        ensures { HasParts row (length self.now.parts.now) →
+            result.now ≡ slice_range self.now.parts.now row.from row.to }
+    {
         self.parts
             .get(row.from as usize..row.to as usize)
             .unwrap_or(&[])
     }
 
     /// Joins the construct: those above it are joined.
-    fn join(&self, x: u32, work: &mut Work) -> Result<(), AllocError> {
+    fn join(&self, x: u32, work: &mut Work) -> Result<(), AllocError>
+        requires inside { x < length self.now.rows.now }
+        requires room { length work.old.table.items ≡ length self.now.rows.now }
+        ensures room { OnOk result (length work.new.table.items ≡ length self.now.rows.now) }
+        ensures joined { OnOk result ((plan : Plan) → IsFlat plan → IsReadOf plan self.now →
+            AreJoinedFrom plan (x + 1) work.old → AreJoinedFrom plan x work.new) }
+    {
         let row = self.rows[x as usize];
         let site = Site {
             alloc: self.alloc,
@@ -64,22 +76,30 @@ impl<'a> Function<'a> {
 ///
 /// It takes time linear in the plan and in the edges that the rules demand, but for sorting jumps
 /// and edges, which is in n log n; and memory for a summary of each construct.
-pub fn flow(alloc: Global, plan: Plan) -> Result<Vec<(u32, u32)>, AllocError>
+pub fn flow(alloc: Global, plan: plan::Plan) -> Result<Vec<(u32, u32)>, AllocError>
     ensures { IfOk result (λ edges. IsFlat plan → AreFlow (constructs plan) edges.items) }
 {
     let count = u32::try_from(plan.rows.len()).unwrap_or(u32::MAX);
+    let plan::Plan {
+        rows,
+        parts,
+        method_return,
+        targets,
+        breaks,
+        continues,
+    } = plan;
     let function = Function {
         alloc,
-        rows: plan.rows.as_slice(),
-        parts: plan.parts.as_slice(),
-        end: plan.method_return,
+        rows: rows.as_slice(),
+        parts: parts.as_slice(),
+        end: method_return,
     };
     let mut work = Work {
-        table: gaps(alloc, plan.rows.len())?,
+        table: gaps(alloc, rows.len())?,
         ahead: Ahead {
-            targets: in_order(plan.targets),
-            breaks: in_order(plan.breaks),
-            continues: in_order(plan.continues),
+            targets: in_order(targets),
+            breaks: in_order(breaks),
+            continues: in_order(continues),
         },
         out: Joined {
             first: SmallVec::new(alloc),
@@ -89,7 +109,15 @@ pub fn flow(alloc: Global, plan: Plan) -> Result<Vec<(u32, u32)>, AllocError>
     for x in (0..count).rev() {
         function.join(x, &mut work)?;
     }
-    let mut edges = work.out.edges;
+    let Work {
+        table: _,
+        ahead: _,
+        out,
+    } = work;
+    let Joined {
+        first: _,
+        mut edges,
+    } = out;
     put_in_order(&mut edges);
     Ok(edges)
 }
