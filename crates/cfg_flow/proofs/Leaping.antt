@@ -9,7 +9,7 @@ use Rattle.cfg_rules.specs.Member.{IsIn}
 use Rattle.cfg_rules.proofs.Members.{in_left, in_right, in_either}
 use Rattle.cfg_flow.specs.declared.plan.Jump.{Jump}
 use Rattle.cfg_flow.specs.Plans.{marks_at}
-use Rattle.cfg_flow.specs.Jumping.{AreAhead, AreTaken, AreNoneFrom, IsLastFrom}
+use Rattle.cfg_flow.specs.Jumping.{AreAhead, AreTaken, AreNoneFrom, IsLastFrom, IsMarkAdded}
 use Rattle.cfg_flow.proofs.Members.{contains, is_in, in_one, one_in, none_in}
 
 abbrev pub jump : ℕ → ℕ → Jump
@@ -22,11 +22,11 @@ same_jump j x m e f = cc (ap (λ (v : ℕ). jump v j.mark) e, ap (λ (v : ℕ). 
 pub marks_in : (x m : ℕ) (js : List Jump) → IsIn (marks_at x js) m → IsIn js (jump x m)
 unfolding marks_at IsIn
 marks_in x m [] i = i
-marks_in x m (j ∷ js) i = by (j.construct == x) refl i where
-  by : (b : Bool) → (j.construct == x) ≡ b → IsIn (cond b (j.mark ∷ marks_at x js) (marks_at x js)) m → IsIn (j ∷ js) (jump x m)
-  by true e (inl f) = inl (same_jump j x m (eqb-true j.construct x e) f)
-  by true e (inr i) = inr (marks_in x m js i)
-  by false e i = inr (marks_in x m js i)
+marks_in x m (j ∷ js) i = by (j.construct == x) refl (λ k. marks_in x m js k) i where
+  by : (b : Bool) → (j.construct == x) ≡ b → (IsIn (marks_at x js) m → IsIn js (jump x m)) → IsIn (cond b (j.mark ∷ marks_at x js) (marks_at x js)) m → IsIn (j ∷ js) (jump x m)
+  by true e rest (inl f) = inl (same_jump j x m (eqb-true j.construct x e) f)
+  by true e rest (inr i) = inr (rest i)
+  by false e rest i = inr (rest i)
 
 pub in_marks : (x m : ℕ) (js : List Jump) → IsIn js (jump x m) → IsIn (marks_at x js) m
 unfolding marks_at IsIn
@@ -67,7 +67,7 @@ front_rises front j r = λ i k d low high. by i k d low high (r i k d low (omega
       subst (λ (v : Jump). v.construct ≤ (get_or front k d).construct) a (subst (λ (v : Jump). (get_or (front ++ j ∷ []) i d).construct ≤ v.construct) b h)
 
 -- One more jump is taken: it is of x, or of a construct above it.
-pub taking_more : (all : List Jump) (x : ℕ) (marks more : List ℕ) (left front : List Jump) (j : Jump) → left ≡ front ++ j ∷ [] → x ≤ j.construct → ((j.construct ≡ x) × (more ≡ marks ++ j.mark ∷ [])) ⊎ (¬ (j.construct ≡ x) × (more ≡ marks)) → AreTaking all x marks left → AreTaking all x more front
+pub taking_more : (all : List Jump) (x : ℕ) (marks more : List ℕ) (left front : List Jump) (j : Jump) → left ≡ front ++ j ∷ [] → x ≤ j.construct → IsMarkAdded x j marks more → AreTaking all x marks left → AreTaking all x more front
 taking_more all x marks more left front j split high which t = record {
   below = λ k i low. elim (in_either front (j ∷ []) k (here k (t.below k i low))) [ inl f ↦ f | inr o ↦ absurd (let same : j.construct ≡ k.construct = ap (λ (v : Jump). v.construct) (in_one j k o) in omega arith) ];
   among = λ k i. t.among k (subst (λ (js : List Jump). IsIn js k) (sym split) (in_left front (j ∷ []) k i));
@@ -81,14 +81,14 @@ taking_more all x marks more left front j split high which t = record {
   last : IsIn left j
   last = subst (λ (js : List Jump). IsIn js j) (sym split) (in_right front (j ∷ []) j (one_in j))
 
-  sound : (m : ℕ) → ((j.construct ≡ x) × (more ≡ marks ++ j.mark ∷ [])) ⊎ (¬ (j.construct ≡ x) × (more ≡ marks)) → IsIn more m → IsIn (marks_at x all) m
+  sound : (m : ℕ) → IsMarkAdded x j marks more → IsIn more m → IsIn (marks_at x all) m
   sound m (inl (at, e)) i = elim (in_either marks (j.mark ∷ []) m (subst (λ (ms : List ℕ). IsIn ms m) e i)) [
     | inl o ↦ t.sound m o
     | inr o ↦ in_marks x m all (subst (λ (k : Jump). IsIn all k) (same_jump j x m at (in_one j.mark m o)) (t.among j last))
   ]
   sound m (inr (off, e)) i = t.sound m (subst (λ (ms : List ℕ). IsIn ms m) e i)
 
-  whole : (m : ℕ) → ((j.construct ≡ x) × (more ≡ marks ++ j.mark ∷ [])) ⊎ (¬ (j.construct ≡ x) × (more ≡ marks)) → IsIn marks m ⊎ IsIn left (jump x m) → IsIn more m ⊎ IsIn front (jump x m)
+  whole : (m : ℕ) → IsMarkAdded x j marks more → IsIn marks m ⊎ IsIn left (jump x m) → IsIn more m ⊎ IsIn front (jump x m)
   whole m (inl (at, e)) (inl i) = inl (subst (λ (ms : List ℕ). IsIn ms m) (sym e) (in_left marks (j.mark ∷ []) m i))
   whole m (inr (off, e)) (inl i) = inl (subst (λ (ms : List ℕ). IsIn ms m) (sym e) i)
   whole m (inl (at, e)) (inr i) = elim (in_either front (j ∷ []) (jump x m) (here (jump x m) i)) [
@@ -124,3 +124,20 @@ none_of_none x (j ∷ js) last = record { none = λ r k i. absurd (none-some (ge
 
 pub taking_end : (all : List Jump) (x : ℕ) (marks : List ℕ) (left : List Jump) → AreNoneFrom x left → AreTaking all x marks left → AreTaken all x marks left
 taking_end all x marks left none t = taking_all all x marks left (λ m i. let low : x < x = none.none t.rise (jump x m) i in omega arith) t
+
+take_last : {X : Type 0} (xs : List X) (k : ℕ) (x : X) → slice_get xs k ≡ Some x → k + 1 ≡ length xs → xs ≡ take k xs ++ x ∷ []
+take_last [] k x e all = cc
+take_last (y ∷ []) zero x e all = cc
+take_last (y ∷ z ∷ zs) zero x e all = absurd (omega arith)
+take_last (y ∷ ys) (suc k) x e all = ap (λ l. y ∷ l) (take_last ys k x e (omega arith))
+
+pub popped : (left front : List Jump) (n : ℕ) (j : Jump) → n ≡ length left → 0 < length left → front ≡ take (n - 1) left → slice_get left (length left - 1) ≡ Some j → left ≡ front ++ j ∷ []
+popped left front n j all some e last =
+    let at : length left - 1 ≡ n - 1 = omega arith in
+    take_last left (n - 1) j (subst (λ (v : ℕ). slice_get left v ≡ Some j) at last) (omega arith) ∙ ap (λ (l : List Jump). l ++ j ∷ []) (sym e)
+
+pub shorter : (left front : List Jump) (j : Jump) → left ≡ front ++ j ∷ [] → length front < length left
+shorter left front j split =
+    let count : length left ≡ length (front ++ j ∷ []) = ap (λ (l : List Jump). length l) split in
+    let more : length (front ++ j ∷ []) ≡ length front + 1 = length-append front (j ∷ []) in
+    omega arith

@@ -28,15 +28,15 @@ site_end s = ap end_at s.is ∙ s.end
 
 pub site_targets : {plan : List Construct} {site : Site} {jumps : Jumps} → IsSite plan site jumps → AreTargets plan site.x jumps.targets.items
 unfolding JumpsTo
-site_targets s = record { are = λ b. subst (λ (o : Option Construct). IsIn _ b ↔ JumpsAt o b) (sym s.is) (s.targets b) }
+site_targets {jumps = jumps} s = record { are = λ b. subst (λ (o : Option Construct). IsIn jumps.targets.items b ↔ JumpsAt o b) (sym s.is) (s.targets b) }
 
 pub site_breaks : {plan : List Construct} {site : Site} {jumps : Jumps} (r : Rule) → IsSite plan site jumps → site.rule ≡ r → CanBreak r → AreBreaks plan site.x jumps.breaks.items
 unfolding Breaks
-site_breaks r s e can = record { are = λ a. subst (λ (o : Option Construct). IsIn _ a ↔ BreaksAt o a) (sym s.is) (λ i. ((s.breaks a).0 i, subst CanBreak (sym (s.rule ∙ e)) can), λ b. (s.breaks a).1 b.0) }
+site_breaks {jumps = jumps} r s e can = record { are = λ a. subst (λ (o : Option Construct). IsIn jumps.breaks.items a ↔ BreaksAt o a) (sym s.is) (λ i. ((s.breaks a).0 i, subst CanBreak (sym (s.rule ∙ e)) can), λ b. (s.breaks a).1 b.0) }
 
 pub site_continues : {plan : List Construct} {site : Site} {jumps : Jumps} (r : Rule) → IsSite plan site jumps → site.rule ≡ r → CanContinue r → (a : ℕ) → IsIn jumps.continues.items a ↔ Continues plan site.x a (body r)
 unfolding Continues
-site_continues r s e can a = subst (λ (o : Option Construct). IsIn _ a ↔ ContinuesAt o a (body r)) (sym s.is) (λ i. ((s.continues a).0 i, subst CanContinue (sym (s.rule ∙ e)) can, ap body (sym (s.rule ∙ e))), λ b. (s.continues a).1 b.0)
+site_continues {jumps = jumps} r s e can a = subst (λ (o : Option Construct). IsIn jumps.continues.items a ↔ ContinuesAt o a (body r)) (sym s.is) (λ i. ((s.continues a).0 i, subst CanContinue (sym (s.rule ∙ e)) can, ap body (sym (s.rule ∙ e))), λ b. (s.continues a).1 b.0)
 
 -- No `continue` ends a part that is no body of a loop.
 pub never_continued : {plan : List Construct} {site : Site} {jumps : Jumps} (r : Rule) (k : ℕ) → IsSite plan site jumps → site.rule ≡ r → (CanContinue r → ¬ (k ≡ body r)) → (a : ℕ) → ¬ (Continues plan site.x a k)

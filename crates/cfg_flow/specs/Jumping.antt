@@ -1,5 +1,6 @@
 -- The jumps of the constructs that are still to be joined (ours).
-use Rattle.std.specs.Prelude.{ℕ, ◌≡◌, ◌<◌, ◌≤◌, ◌-◌, ◌↔◌, List, Some, length, slice_get}
+use Rattle.std.specs.Prelude.{ℕ, ◌≡◌, ◌<◌, ◌≤◌, ◌-◌, ◌↔◌, ◌⊎◌, ◌++◌, ◌∷◌, [], List}
+use Rattle.std.specs.Prelude.{Some, length, slice_get}
 use Rattle.std.specs.List.Sorted.{IsNonDecreasingBy}
 use Rattle.cfg_rules.specs.Member.{IsIn}
 use Rattle.cfg_flow.specs.declared.plan.Jump.{Jump}
@@ -29,6 +30,11 @@ pub record IsLastFrom (x : ℕ) (jumps : List Jump) (jump : Jump) : Type 0 where
   pub some : 0 < length jumps
   pub last : slice_get jumps (length jumps - 1) ≡ Some jump
   pub from : x ≤ jump.construct
+
+-- The mark of the jump was added, if it is of x.
+abbrev pub IsMarkAdded : ℕ → Jump → List ℕ → List ℕ → Type 0
+IsMarkAdded x jump old new = ((jump.construct ≡ x) × (new ≡ old ++ jump.mark ∷ [])) ⊎
+    (¬ (jump.construct ≡ x) × (new ≡ old))
 
 -- The same of the three kinds of jump in a plan.
 pub record IsAhead (plan : Plan) (x : ℕ) (ahead : Ahead) : Type 0 where

@@ -61,8 +61,8 @@ pub record IsPartTaken (plan : List Construct) (x k : ℕ) (m : Summary) (table 
   pub ready : AreReady plan x (k + 1) table
 
 -- The first parts of x were taken out of the table.
-pub record ArePartsTaken (plan : List Construct) (x count : ℕ) (parts table : List Summary) :
+pub record ArePartsTaken (plan : List Construct) (x n : ℕ) (parts table : List Summary) :
     Type 0 where
-  pub count : length parts ≡ count
+  pub count : length parts ≡ n
   pub each : (k : ℕ) (m : Summary) → slice_get parts k ≡ Some m → IsPartAlone plan x k m
-  pub ready : AreReady plan x count table
+  pub ready : AreReady plan x n table

@@ -1,10 +1,10 @@
 //! The jumps of a plan, by their constructs.
 
-ghost use Rattle.std.specs.Prelude.{ℕ, ◌+◌, List, IfOk, MatchOption};
+ghost use Rattle.std.specs.Prelude.{ℕ, ◌+◌, List, IfOk, MatchOption, OnOk};
 ghost use Rattle.cfg_flow.specs.declared.plan.Jump.{Jump};
 ghost use Rattle.cfg_flow.specs.declared.plan.Plan.{Plan};
 ghost use Rattle.cfg_flow.specs.Jumping.{AreAhead, AreAllTaken, AreNoneFrom, AreTaken};
-ghost use Rattle.cfg_flow.specs.Jumping.{IsAhead, IsLastFrom};
+ghost use Rattle.cfg_flow.specs.Jumping.{IsAhead, IsLastFrom, IsMarkAdded};
 
 use crate::plan;
 use cfg_rules::Marks;
@@ -42,8 +42,26 @@ pub(crate) fn in_order(mut jumps: Vec<plan::Jump>) -> Vec<plan::Jump>
 fn last_from(jumps: &[plan::Jump], x: u32) -> Option<plan::Jump>
     ensures { MatchOption result (AreNoneFrom x jumps.now) (IsLastFrom x jumps.now) }
 {
-    let jump = *jumps.last()?;
-    if jump.construct < x { None } else { Some(jump) }
+    match jumps.last() {
+        None => None,
+        Some(jump) => {
+            if jump.construct < x {
+                None
+            } else {
+                Some(*jump)
+            }
+        }
+    }
+}
+
+/// Adds the mark of a jump, if it is of the construct.
+fn add_mark(marks: &mut Marks, jump: plan::Jump, x: u32) -> Result<(), AllocError>
+    ensures { OnOk result (IsMarkAdded x jump marks.old.items marks.new.items) }
+{
+    if jump.construct == x {
+        marks.push(jump.mark)?;
+    }
+    Ok(())
 }
 
 /// Takes the marks of the construct out of the jumps, and passes over those of later ones.
@@ -53,9 +71,7 @@ fn take_marks(alloc: Global, ahead: &mut Vec<plan::Jump>, x: u32) -> Result<Mark
 {
     let mut marks = SmallVec::new(alloc);
     while let Some(jump) = last_from(ahead.as_slice(), x) {
-        if jump.construct == x {
-            marks.push(jump.mark)?;
-        }
+        add_mark(&mut marks, jump, x)?;
         ahead.pop();
     }
     Ok(marks)
@@ -67,10 +83,13 @@ impl Ahead {
         ensures { IfOk result (λ taken. (plan : Plan) → IsAhead plan (x + 1) self.old →
             AreAllTaken plan x taken self.new) }
     {
+        let targets = take_marks(alloc, &mut self.targets, x)?;
+        let breaks = take_marks(alloc, &mut self.breaks, x)?;
+        let continues = take_marks(alloc, &mut self.continues, x)?;
         Ok(Jumps {
-            targets: take_marks(alloc, &mut self.targets, x)?,
-            breaks: take_marks(alloc, &mut self.breaks, x)?,
-            continues: take_marks(alloc, &mut self.continues, x)?,
+            targets,
+            breaks,
+            continues,
         })
     }
 }

@@ -1,0 +1,11 @@
+use Rattle.cfg_flow.proofs.Joining.{none_joined}
+use Rattle.cfg_flow.proofs.work.flow.Goals as goal
+
+pub loop-x-init : goal.loop-x-init
+loop-x-init c = ?
+
+pub loop-x-preserved : goal.loop-x-preserved
+loop-x-preserved c = ?
+
+pub returns : goal.returns
+returns c = ?
