@@ -3,3 +3,4 @@ pub mod Leaping
 pub mod Placing
 pub mod Siting
 pub mod Joining
+pub mod Rising
