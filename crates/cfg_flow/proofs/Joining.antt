@@ -11,6 +11,8 @@ use Rattle.cfg_rules.specs.Plan.{Construct, HasArrow, arrows_at, Breaks, BreaksA
 use Rattle.cfg_rules.specs.Joined.{Source, after, head, Comes, along, broke, Goes, stops, jumps, finishes, inner, Joins}
 use Rattle.cfg_rules.specs.Sets.{Got, IsSummary}
 use Rattle.cfg_rules.proofs.Summing.{joined_is_summary}
+use Rattle.cfg_rules.proofs.Walks.{flow_is_joined}
+use Rattle.std.specs.List.{Contains}
 use Rattle.cfg_flow.specs.declared.jumps.Ahead.{Ahead}
 use Rattle.cfg_flow.specs.declared.jumps.Jumps.{Jumps}
 use Rattle.cfg_flow.specs.declared.plan.Plan.{Plan}
@@ -22,7 +24,8 @@ use Rattle.cfg_flow.specs.Jumping.{IsAhead, AreAllTaken}
 use Rattle.cfg_flow.specs.Tables.{AreDone, AreKept, AreReady}
 use Rattle.cfg_flow.specs.Steps.{IsSite, IsJoinedAt}
 use Rattle.cfg_flow.specs.Works.{AreJoinedFrom}
-use Rattle.cfg_flow.proofs.Members.{none_in}
+use Rattle.cfg_flow.specs.Edges.{AreFlow, IsRising}
+use Rattle.cfg_flow.proofs.Members.{contains, is_in, none_in}
 
 from_is : (plan : Plan) (start : ℕ) (rows : List Row) (k : ℕ) (row : Row) → slice_get rows k ≡ Some row → slice_get (constructs_from plan start rows) k ≡ Some (construct_at plan (start + k) row)
 unfolding constructs_from
@@ -124,3 +127,19 @@ joined_more plan x old new next out table m j is here others none edges ahead fr
   whole : (a b y : ℕ) → Joins (constructs plan) y a b → (x ≡ y) ⊎ (x < y) → IsIn old.out.edges.items (a, b) ⊎ Joins (constructs plan) x a b
   whole a b y g (inl same) = inr (subst (λ (v : ℕ). Joins (constructs plan) v a b) (sym same) g)
   whole a b y g (inr above) = inl ((from.edges a b).1 (y, omega arith, g))
+
+-- All are joined: the edges are the flow.
+pub flow_from : (plan : Plan) (work : Work) (edges : List (ℕ × ℕ)) → IsFlat plan → AreJoinedFrom plan 0 work → ((a b : ℕ) → Contains {X = ℕ × ℕ} edges (a, b) ↔ Contains {X = ℕ × ℕ} work.out.edges.items (a, b)) → IsRising edges → AreFlow (constructs plan) edges
+flow_from plan work edges flat from same rising = record {
+  flow = λ a b.
+      let joined = flow_is_joined (constructs plan) flat.plan_is a b in (
+        λ has. joined.1 (of a b ((from.edges a b).0 (is_in {X = ℕ × ℕ} work.out.edges.items (a, b) ((same a b).0 has)))),
+        λ flows. (same a b).1 (contains {X = ℕ × ℕ} work.out.edges.items (a, b) ((from.edges a b).1 (to a b (joined.0 flows)))),
+      );
+  rising = rising;
+} where
+  of : (a b : ℕ) → (y : ℕ) × (0 ≤ y) × Joins (constructs plan) y a b → (y : ℕ) × Joins (constructs plan) y a b
+  of a b (y, low, g) = (y, g)
+
+  to : (a b : ℕ) → (y : ℕ) × Joins (constructs plan) y a b → (y : ℕ) × (0 ≤ y) × Joins (constructs plan) y a b
+  to a b (y, g) = (y, omega arith, g)

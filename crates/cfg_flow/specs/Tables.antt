@@ -26,6 +26,12 @@ abbrev pub IsTaken : Option ℕ → List Summary → Summary → List Summary �
 IsTaken None old m new = IsGap m × (new ≡ old)
 IsTaken (Some c) old m new = c < length old → IsTakenAt c old m new
 
+-- The summary of the construct x was put into the table.
+pub record IsPut (x : ℕ) (old : List Summary) (m : Summary) (new : List Summary) : Type 0 where
+  pub is : slice_get new x ≡ Some m
+  pub others : (c : ℕ) → ¬ (c ≡ x) → slice_get new c ≡ slice_get old c
+  pub count : length new ≡ length old
+
 -- The part has these last marks too.
 pub record IsContinued (part : Summary) (continues : List ℕ) (body : Summary) : Type 0 where
   pub first : body.first.items ≡ part.first.items

@@ -1,7 +1,7 @@
 //! The summaries of constructs that are joined, by their numbers.
 
-ghost use Rattle.std.specs.Prelude.{◌≡◌, IfOk, Some, length};
-ghost use Rattle.cfg_flow.specs.Tables.{IsContinued, IsGap, IsTaken, part_in};
+ghost use Rattle.std.specs.Prelude.{◌≡◌, ◌<◌, IfOk, Some, length};
+ghost use Rattle.cfg_flow.specs.Tables.{IsContinued, IsGap, IsPut, IsTaken, part_in};
 
 use cfg_rules::{Marks, Summary};
 use smallvec::SmallVec;
@@ -56,6 +56,14 @@ pub(crate) fn take_part(
         Some(Some(part)) => take(alloc, *part as usize, table),
         _ => gap(alloc),
     }
+}
+
+/// Puts the summary of a construct into the table.
+pub(crate) fn put(table: &mut [Summary], x: usize, summary: Summary)
+    requires { x < length table.old }
+    ensures { IsPut x table.old summary table.new }
+{
+    table[x] = summary;
 }
 
 /// The part with the `continue`s that end it among its last marks.

@@ -1,6 +1,7 @@
 //! The flow of a plan, from the parts upwards.
 
-ghost use Rattle.std.specs.Prelude.{◌≡◌, ◌<◌, ◌+◌, IfOk, OnOk, length, slice_range};
+ghost use Rattle.std.specs.Prelude.{◌≡◌, ◌<◌, ◌≤◌, ◌+◌, ◌^◌, [], IfOk, OnOk};
+ghost use Rattle.std.specs.Prelude.{Some, length, slice_get, slice_range};
 ghost use Rattle.cfg_flow.specs.declared.plan.Plan.{Plan};
 ghost use Rattle.cfg_flow.specs.Plans.{HasParts, IsFlat, constructs};
 ghost use Rattle.cfg_flow.specs.Edges.{AreFlow};
@@ -11,8 +12,8 @@ use crate::order::put_in_order;
 use crate::plan;
 use crate::plan::Row;
 use crate::site::Site;
-use crate::table::gaps;
-use cfg_rules::{Joined, Summary};
+use crate::table::{gaps, put};
+use cfg_rules::{Joined, Marks, Summary};
 use smallvec::SmallVec;
 use std::alloc::{AllocError, Global};
 use std::mem;
@@ -34,7 +35,31 @@ struct Work {
     out: Joined,
 }
 
+/// Takes the first marks out of what was joined: the next construct begins with none.
+fn take_first(alloc: Global, out: &mut Joined) -> Marks
+    ensures first { result ≡ out.old.first }
+    ensures none { out.new.first.items ≡ [] }
+    ensures edges { out.new.edges ≡ out.old.edges }
+{
+    mem::replace(&mut out.first, SmallVec::new(alloc))
+}
+
+/// The number of so many rows, which is theirs unless they are too many.
+fn number_of(rows: usize) -> u32
+    ensures within { result ≤ rows }
+    ensures all { rows < 2 ^ 32 → result ≡ rows }
+{
+    u32::try_from(rows).unwrap_or(u32::MAX)
+}
+
 impl<'a> Function<'a> {
+    fn row(&self, x: u32) -> Row
+        requires { x < length self.now.rows.now }
+        ensures { slice_get self.now.rows.now x ≡ Some result }
+    {
+        self.rows[x as usize]
+    }
+
     fn parts_of(&self, row: Row) -> &'a [Option<u32>]
         ensures { HasParts row (length self.now.parts.now) →
             result.now ≡ slice_range self.now.parts.now row.from row.to }
@@ -52,7 +77,7 @@ impl<'a> Function<'a> {
         ensures joined { OnOk result ((plan : Plan) → IsFlat plan → IsReadOf plan self.now →
             AreJoinedFrom plan (x + 1) work.old → AreJoinedFrom plan x work.new) }
     {
-        let row = self.rows[x as usize];
+        let row = self.row(x);
         let site = Site {
             alloc: self.alloc,
             x,
@@ -62,12 +87,13 @@ impl<'a> Function<'a> {
         };
         let jumps = work.ahead.take(self.alloc, x)?;
         let next = site.join(jumps, &mut work.table, &mut work.out)?;
-        let first = mem::replace(&mut work.out.first, SmallVec::new(self.alloc));
-        work.table[x as usize] = Summary {
+        let first = take_first(self.alloc, &mut work.out);
+        let summary = Summary {
             first,
             last: next.marks,
             passable: next.entered,
         };
+        put(&mut work.table, x as usize, summary);
         Ok(())
     }
 }
@@ -79,8 +105,7 @@ impl<'a> Function<'a> {
 pub fn flow(alloc: Global, plan: plan::Plan) -> Result<Vec<(u32, u32)>, AllocError>
     ensures { IfOk result (λ edges. IsFlat plan → AreFlow (constructs plan) edges.items) }
 {
-    let count = u32::try_from(plan.rows.len()).unwrap_or(u32::MAX);
-    let plan::Plan {
+        let plan::Plan {
         rows,
         parts,
         method_return,
@@ -106,7 +131,7 @@ pub fn flow(alloc: Global, plan: plan::Plan) -> Result<Vec<(u32, u32)>, AllocErr
             edges: Vec::new(alloc),
         },
     };
-    for x in (0..count).rev() {
+    for x in (0..number_of(rows.len())).rev() {
         function.join(x, &mut work)?;
     }
     let Work {
