@@ -105,7 +105,7 @@ impl<'a> Function<'a> {
 pub fn flow(alloc: Global, plan: plan::Plan) -> Result<Vec<(u32, u32)>, AllocError>
     ensures { IfOk result (λ edges. IsFlat plan → AreFlow (constructs plan) edges.items) }
 {
-        let plan::Plan {
+    let plan::Plan {
         rows,
         parts,
         method_return,

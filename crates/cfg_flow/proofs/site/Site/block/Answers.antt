@@ -11,8 +11,8 @@ pub returns : goal.returns
 returns c = if_ok c.join_block.result c.join_block.ensures (λ next is jumps plan plan_is site ready.
     let parts = c.in_ok-items.ensures plan jumps plan_is site ready in
     let never = λ k. never_continued Block k site c.requires (λ can e. absurd can) in
-    let all : AreParts plan _ c.in_ok-items.items.items = all_parts parts (site_count site) never in
+    let all : AreParts plan c.args.self.now.x c.in_ok-items.items.items = all_parts parts (site_count site) never in
     record {
-      joined = is plan _ (site_rule Block site c.requires) (subst (λ (ms : List Summary). AreParts plan _ ms) (sym c.as_slice.ensures.value) all);
+      joined = is plan _ (site_rule Block site c.requires) (subst (λ (ms : List Summary). AreParts plan c.args.self.now.x ms) (sym c.as_slice.ensures.value) all);
       kept = ready_kept parts.ready;
     })

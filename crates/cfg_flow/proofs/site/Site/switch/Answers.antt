@@ -12,6 +12,6 @@ returns c = if_ok c.join_switch.result c.join_switch.ensures (λ next is plan pl
     let p1 = c.take-body.ensures plan c.args.jumps 1 plan_is site p0.ready (omega arith) in
     let rule = site_rule Switch site c.requires in
     record {
-      joined = is plan _ rule (alone_part p0.alone (never_continued Switch 0 site c.requires (λ can e. absurd can))) (alone_part p1.alone (never_continued Switch 1 site c.requires (λ can e. absurd can))) (subst (λ (ts : List ℕ). AreTargets plan _ ts) (sym c.as_slice.ensures) (site_targets site)) (site_breaks Switch site c.requires tt);
+      joined = is plan _ rule (alone_part p0.alone (never_continued Switch 0 site c.requires (λ can e. absurd can))) (alone_part p1.alone (never_continued Switch 1 site c.requires (λ can e. absurd can))) (subst (λ (ts : List ℕ). AreTargets plan c.args.self.now.x ts) (sym c.as_slice.ensures) (site_targets site)) (site_breaks Switch site c.requires tt);
       kept = ready_kept p1.ready;
     })
