@@ -1,0 +1,5 @@
+pub mod Finds
+pub mod Parts
+pub mod Standing
+pub mod Places
+pub mod Walking
