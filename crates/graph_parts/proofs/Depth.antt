@@ -12,59 +12,43 @@ use Rattle.cpg_schema.specs.Graph.{PlainEdge, PlainGraph}
 use Rattle.cpg_schema.specs.Fitting.{IsEdgeAmong, IsGraph}
 use Rattle.cpg_schema.specs.Shape.{IsAstEdgeAt, IsAbove, child as child_edge, descendant, IsShaped}
 use Rattle.graph_parts.specs.Parts.{HasEdge, IsChild}
+use Rattle.graph_parts.specs.NodesAbove.{parent_in, with_above, above_within, nodes_above}
 use Rattle.graph_parts.specs.Standing.{IsIn, IsRootOf}
 use Rattle.graph_parts.proofs.KindRank.{kind_from_rank}
 use Rattle.graph_parts.proofs.Tree.{child_at, edge_at, above_child, above_further, above_in, last_of, one_parent}
 
-abbrev is_ast_to : ℕ → PlainEdge → Bool
-is_ast_to node edge = (kind_rank edge.kind == 0) && (edge.to == node)
-
--- the node from which the first AST edge to this one leads
-abbrev parent_in : List PlainEdge → ℕ → Option ℕ
-parent_in [] node = None
-parent_in (edge ∷ edges) node = if is_ast_to node edge then Some edge.from else parent_in edges node
-
-abbrev climbed : (ℕ → List ℕ) → Option ℕ → List ℕ
-climbed up None = []
-climbed up (Some parent) = parent ∷ up parent
-
--- the nodes above one, from its parent upwards, and no more than so many
-abbrev ancestors : List PlainEdge → ℕ → ℕ → List ℕ
-ancestors edges zero node = []
-ancestors edges (suc fuel) node = climbed (ancestors edges fuel) (parent_in edges node)
-
 abbrev pub depth : PlainGraph → ℕ → ℕ
-depth graph node = length (ancestors graph.edges (length graph.nodes) node)
+depth graph node = length (nodes_above graph node)
 
-found : (edges : List PlainEdge) (node parent : ℕ) → parent_in edges node ≡ Some parent → (position : ℕ) × IsAstEdgeAt edges position parent node
+pub found : (edges : List PlainEdge) (node parent : ℕ) → parent_in edges node ≡ Some parent → (position : ℕ) × IsAstEdgeAt edges position parent node
 found [] node parent is = cc
-found (edge ∷ edges) node parent is = by (is_ast_to node edge) refl is (found edges node parent)
+found (edge ∷ edges) node parent is = by ((kind_rank edge.kind == kind_rank Ast) && (edge.to == node)) refl is (found edges node parent)
   where
-    by : (t : Bool) → is_ast_to node edge ≡ t → (if t then Some edge.from else parent_in edges node) ≡ Some parent →
+    by : (t : Bool) → ((kind_rank edge.kind == kind_rank Ast) && (edge.to == node)) ≡ t → (if t then Some edge.from else parent_in edges node) ≡ Some parent →
         (parent_in edges node ≡ Some parent → (position : ℕ) × IsAstEdgeAt edges position parent node) →
         (position : ℕ) × IsAstEdgeAt (edge ∷ edges) position parent node
     by true t is rest =
-        let parts = and_parts (kind_rank edge.kind == 0) (edge.to == node) t in
+        let parts = and_parts (kind_rank edge.kind == kind_rank Ast) (edge.to == node) t in
         let from : edge.from ≡ parent = cc in
-        (0, record { edge = edge; edge_is = refl; kind = kind_from_rank edge.kind Ast (eqb-true (kind_rank edge.kind) 0 parts.0); from = from; to = eqb-true edge.to node parts.1 })
+        (0, record { edge = edge; edge_is = refl; kind = kind_from_rank edge.kind Ast (eqb-true (kind_rank edge.kind) (kind_rank Ast) parts.0); from = from; to = eqb-true edge.to node parts.1 })
     by false t is rest =
         let there = rest is in
         let at = there.1 in
         (suc there.0, record { edge = at.edge; edge_is = at.edge_is; kind = at.kind; from = at.from; to = at.to })
 
-missing : (edges : List PlainEdge) (node : ℕ) → parent_in edges node ≡ None → (position parent : ℕ) → ¬ IsAstEdgeAt edges position parent node
+pub missing : (edges : List PlainEdge) (node : ℕ) → parent_in edges node ≡ None → (position parent : ℕ) → ¬ IsAstEdgeAt edges position parent node
 missing [] node is zero parent at = let none = at.edge_is in cc
 missing [] node is (suc position) parent at = let none = at.edge_is in cc
-missing (edge ∷ edges) node is position parent at = by (is_ast_to node edge) refl is position at (missing edges node)
+missing (edge ∷ edges) node is position parent at = by ((kind_rank edge.kind == kind_rank Ast) && (edge.to == node)) refl is position at (missing edges node)
   where
-    by : (t : Bool) → is_ast_to node edge ≡ t → (if t then Some edge.from else parent_in edges node) ≡ None → (position : ℕ) → IsAstEdgeAt (edge ∷ edges) position parent node →
+    by : (t : Bool) → ((kind_rank edge.kind == kind_rank Ast) && (edge.to == node)) ≡ t → (if t then Some edge.from else parent_in edges node) ≡ None → (position : ℕ) → IsAstEdgeAt (edge ∷ edges) position parent node →
         (parent_in edges node ≡ None → (position parent : ℕ) → ¬ IsAstEdgeAt edges position parent node) → ⊥
     by true t is position at rest = cc
     by false t is zero at rest =
         let same : edge ≡ at.edge = let first = at.edge_is in cc in
-        let kind : (kind_rank edge.kind == 0) ≡ true = eq-eqb (kind_rank edge.kind) 0 (ap (λ (e : PlainEdge). kind_rank e.kind) same ∙ ap kind_rank at.kind) in
+        let kind : (kind_rank edge.kind == kind_rank Ast) ≡ true = eq-eqb (kind_rank edge.kind) (kind_rank Ast) (ap (λ (e : PlainEdge). kind_rank e.kind) same ∙ ap kind_rank at.kind) in
         let to : (edge.to == node) ≡ true = eq-eqb edge.to node (ap (λ (e : PlainEdge). e.to) same ∙ at.to) in
-        let passes : is_ast_to node edge ≡ true = rw (kind, to) refl in
+        let passes : ((kind_rank edge.kind == kind_rank Ast) && (edge.to == node)) ≡ true = rw (kind, to) refl in
         cc
     by false t is (suc position) at rest =
         let later : IsAstEdgeAt edges position parent node = record { edge = at.edge; edge_is = at.edge_is; kind = at.kind; from = at.from; to = at.to } in
@@ -110,54 +94,54 @@ module _ (graph : PlainGraph) (is_graph : IsGraph graph) where
   above_low ancestor _ (descendant position parent node up at) = above_low ancestor parent up
 
 module _ (graph : PlainGraph) (shaped : IsShaped graph) (is_graph : IsGraph graph) where
-  parent_in_is : (parent node : ℕ) → IsChild graph parent node → parent_in graph.edges node ≡ Some parent
+  pub parent_in_is : (parent node : ℕ) → IsChild graph parent node → parent_in graph.edges node ≡ Some parent
   parent_in_is parent node h = by (parent_in graph.edges node) refl
     where
       by : (o : Option ℕ) → parent_in graph.edges node ≡ o → o ≡ Some parent
       by None is = absurd (missing graph.edges node is h.position parent (edge_at graph parent node h))
       by (Some other) is = let there = found graph.edges node other is in ap Some (one_parent graph shaped other parent node (child_at graph there.0 other node there.1) h)
 
-  above_ancestors : (fuel node q : ℕ) → list_any (eqb q) (ancestors graph.edges fuel node) ≡ true → IsAbove graph.edges q node
+  above_ancestors : (fuel node q : ℕ) → list_any (eqb q) (above_within graph fuel node) ≡ true → IsAbove graph.edges q node
   above_ancestors zero node q there = cc
   above_ancestors (suc fuel) node q there = by (parent_in graph.edges node) refl there (λ p. above_ancestors fuel p q)
     where
-      one : (p : ℕ) (t : Bool) → eqb q p ≡ t → (t || list_any (eqb q) (ancestors graph.edges fuel p)) ≡ true → IsChild graph p node →
-          (list_any (eqb q) (ancestors graph.edges fuel p) ≡ true → IsAbove graph.edges q p) → IsAbove graph.edges q node
+      one : (p : ℕ) (t : Bool) → eqb q p ≡ t → (t || list_any (eqb q) (above_within graph fuel p)) ≡ true → IsChild graph p node →
+          (list_any (eqb q) (above_within graph fuel p) ≡ true → IsAbove graph.edges q p) → IsAbove graph.edges q node
       one p true t there h up = subst (λ (k : ℕ). IsAbove graph.edges k node) (sym (eqb-true q p t)) (above_child graph p node h)
       one p false t there h up = above_further graph q p node (up there) h
 
-      by : (o : Option ℕ) → parent_in graph.edges node ≡ o → list_any (eqb q) (climbed (ancestors graph.edges fuel) o) ≡ true →
-          ((p : ℕ) → list_any (eqb q) (ancestors graph.edges fuel p) ≡ true → IsAbove graph.edges q p) → IsAbove graph.edges q node
+      by : (o : Option ℕ) → parent_in graph.edges node ≡ o → list_any (eqb q) (with_above (above_within graph fuel) o) ≡ true →
+          ((p : ℕ) → list_any (eqb q) (above_within graph fuel p) ≡ true → IsAbove graph.edges q p) → IsAbove graph.edges q node
       by None is there up = cc
       by (Some p) is there up = let at = found graph.edges node p is in one p (eqb q p) refl there (child_at graph at.0 p node at.1) (up p)
 
-  distinct_ancestors : (fuel node : ℕ) → IsDistinct eqb (ancestors graph.edges fuel node)
+  distinct_ancestors : (fuel node : ℕ) → IsDistinct eqb (above_within graph fuel node)
   distinct_ancestors zero node = none_distinct
   distinct_ancestors (suc fuel) node = by (parent_in graph.edges node) (λ p. distinct_ancestors fuel p)
     where
-      by : (o : Option ℕ) → ((p : ℕ) → IsDistinct eqb (ancestors graph.edges fuel p)) → IsDistinct eqb (climbed (ancestors graph.edges fuel) o)
+      by : (o : Option ℕ) → ((p : ℕ) → IsDistinct eqb (above_within graph fuel p)) → IsDistinct eqb (with_above (above_within graph fuel) o)
       by None rest = none_distinct
       by (Some p) rest =
-          IsDistinct-cons eqb p (ancestors graph.edges fuel p)
-          (all_apart p (ancestors graph.edges fuel p) (λ q there same. shaped.no_cycle p (subst (λ (k : ℕ). IsAbove graph.edges k p) (sym same) (above_ancestors fuel p q there))))
+          IsDistinct-cons eqb p (above_within graph fuel p)
+          (all_apart p (above_within graph fuel p) (λ q there same. shaped.no_cycle p (subst (λ (k : ℕ). IsAbove graph.edges k p) (sym same) (above_ancestors fuel p q there))))
           (rest p)
 
-  few : (fuel node : ℕ) → length (ancestors graph.edges fuel node) ≤ length graph.nodes
+  pub few : (fuel node : ℕ) → length (above_within graph fuel node) ≤ length graph.nodes
   few fuel node =
-      length-le_from_distinct_below (ancestors graph.edges fuel node) (length graph.nodes) (distinct_ancestors fuel node)
+      length-le_from_distinct_below (above_within graph fuel node) (length graph.nodes) (distinct_ancestors fuel node)
       (λ q there. above_low graph is_graph q node (above_ancestors fuel node q there))
 
-  settled : (fuel node : ℕ) → length (ancestors graph.edges (suc fuel) node) ≤ fuel → length (ancestors graph.edges fuel node) ≡ length (ancestors graph.edges (suc fuel) node)
+  settled : (fuel node : ℕ) → length (above_within graph (suc fuel) node) ≤ fuel → length (above_within graph fuel node) ≡ length (above_within graph (suc fuel) node)
   settled zero node low = by (parent_in graph.edges node) low
     where
-      by : (o : Option ℕ) → length (climbed (ancestors graph.edges 0) o) ≤ 0 → 0 ≡ length (climbed (ancestors graph.edges 0) o)
+      by : (o : Option ℕ) → length (with_above (above_within graph 0) o) ≤ 0 → 0 ≡ length (with_above (above_within graph 0) o)
       by None low = refl
       by (Some p) low = absurd (omega arith)
   settled (suc fuel) node low = by (parent_in graph.edges node) low (λ p. settled fuel p)
     where
-      by : (o : Option ℕ) → length (climbed (ancestors graph.edges (suc fuel)) o) ≤ suc fuel →
-          ((p : ℕ) → length (ancestors graph.edges (suc fuel) p) ≤ fuel → length (ancestors graph.edges fuel p) ≡ length (ancestors graph.edges (suc fuel) p)) →
-          length (climbed (ancestors graph.edges fuel) o) ≡ length (climbed (ancestors graph.edges (suc fuel)) o)
+      by : (o : Option ℕ) → length (with_above (above_within graph (suc fuel)) o) ≤ suc fuel →
+          ((p : ℕ) → length (above_within graph (suc fuel) p) ≤ fuel → length (above_within graph fuel p) ≡ length (above_within graph (suc fuel) p)) →
+          length (with_above (above_within graph fuel) o) ≡ length (with_above (above_within graph (suc fuel)) o)
       by None low rest = refl
       by (Some p) low rest = ap suc (rest p (omega arith))
 
@@ -165,8 +149,8 @@ module _ (graph : PlainGraph) (shaped : IsShaped graph) (is_graph : IsGraph grap
   pub depth_falls : (parent node : ℕ) → IsChild graph parent node → depth graph node ≡ suc (depth graph parent)
   depth_falls parent node h =
       let n = length graph.nodes in
-      let one : climbed (ancestors graph.edges n) (parent_in graph.edges node) ≡ parent ∷ ancestors graph.edges n parent =
-      ap (climbed (ancestors graph.edges n)) (parent_in_is parent node h) in
+      let one : with_above (above_within graph n) (parent_in graph.edges node) ≡ parent ∷ above_within graph n parent =
+      ap (with_above (above_within graph n)) (parent_in_is parent node h) in
       settled n node (few (suc n) node) ∙ ap length one
 
   -- a node has a parent, or none

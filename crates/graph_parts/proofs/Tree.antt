@@ -43,6 +43,10 @@ module _ (graph : PlainGraph) where
   last_of ancestor _ (child_of position node at) = record { parent = ancestor; is_child = child_at position ancestor node at; holds = inl refl }
   last_of ancestor _ (descendant position parent node up at) = record { parent = parent; is_child = child_at position parent node at; holds = inr up }
 
+  -- nothing is above a root
+  pub none_above : (node found : ℕ) → ((parent : ℕ) → ¬ IsChild graph parent node) → ¬ IsAbove graph.edges found node
+  none_above node found top up = let last = last_of found node up in top last.parent last.is_child
+
 module _ (graph : PlainGraph) (shaped : IsShaped graph) where
   pub one_parent : (first second node : ℕ) → IsChild graph first node → IsChild graph second node → first ≡ second
   one_parent first second node one two =
@@ -135,7 +139,3 @@ module _ (graph : PlainGraph) (shaped : IsShaped graph) where
       around : (between : ℕ) → IsAbove graph.edges parent between → IsIn graph between parent → IsAbove graph.edges parent parent
       around between over (inl same) = subst (λ (k : ℕ). IsAbove graph.edges parent k) same over
       around between over (inr up) = above_trans graph parent between parent over up
-
-  -- nothing is above a root
-  pub none_above : (node found : ℕ) → ((parent : ℕ) → ¬ IsChild graph parent node) → ¬ IsAbove graph.edges found node
-  none_above node found top up = let last = last_of graph found node up in top last.parent last.is_child

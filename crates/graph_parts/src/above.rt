@@ -8,6 +8,7 @@ ghost use Rattle.graph_parts.specs.Finds.{Finds};
 ghost use Rattle.graph_parts.specs.Parts.{IsChild};
 ghost use Rattle.graph_parts.specs.Standing.{IsFileOf, IsNearestAbove, IsRootOf};
 
+use crate::node_test::has_label;
 use cpg_schema::{EdgeKind, Label};
 use edge_index::Index;
 use graph_store::Graph;
@@ -40,7 +41,7 @@ pub fn nearest_above(graph: &Graph, index: &Index, node: u32, label: Label) -> O
 {
     let mut below = node;
     while let Some(above) = parent_of(graph, index, below) {
-        if graph.node(above) == label {
+        if has_label(graph, above, label) {
             return Some(above);
         }
         below = above;
@@ -73,7 +74,7 @@ pub fn file_of(graph: &Graph, index: &Index, node: u32) -> Option<u32>
     ensures within { IfSome result (λ file. file < length graph.now.nodes) }
 {
     let root = root_of(graph, index, node);
-    if graph.node(root) == Label::File {
+    if has_label(graph, root, Label::File) {
         Some(root)
     } else {
         None

@@ -8,7 +8,8 @@ ghost use Rattle.graph_parts.specs.Finds.{Finds};
 ghost use Rattle.graph_parts.specs.Parts.{IsArgument};
 
 use crate::above::parent_of;
-use cpg_schema::{EdgeKind, Key};
+use crate::node_test::has_index;
+use cpg_schema::EdgeKind;
 use edge_index::Index;
 use graph_store::Graph;
 use graph_store::laws::law_stored;

@@ -6,7 +6,9 @@ ghost use Rattle.cpg_schema.specs.Graph.{PlainGraph};
 ghost use Rattle.cpg_schema.specs.Fitting.{IsGraph};
 ghost use Rattle.cpg_schema.specs.Shape.{IsShaped};
 ghost use Rattle.graph_parts.specs.Parts.{IsArgument, IsChild, IsChildOf, IsNumbered, IsPart};
-ghost use Rattle.graph_parts.specs.Standing.{IsFileOf, IsNearestAbove, IsRootOf};
+ghost use Rattle.graph_parts.specs.Finds.{Finds};
+ghost use Rattle.graph_parts.specs.NodesAbove.{method_at, root_at};
+ghost use Rattle.graph_parts.specs.Standing.{IsFileOf, IsMethodAbove, IsNearestAbove, IsRootOf};
 
 /// A node has at most one part k, one child of a label, one number i of a label and one argument i,
 /// in whatever graph.
@@ -45,4 +47,13 @@ pub fn law_one_root()
         (root : ℕ) × IsRootOf graph node root }
     ensures file { (graph : PlainGraph) → IsShaped graph → (node first second : ℕ) →
         IsFileOf graph node first → IsFileOf graph node second → first ≡ second }
+{}
+
+/// What a definition computes from the list of the nodes above one is the root of that node and the
+/// METHOD in which it stands.
+pub fn law_nodes_above()
+    ensures root { (graph : PlainGraph) → IsShaped graph → IsGraph graph → (node : ℕ) →
+        IsRootOf graph node (root_at graph node) }
+    ensures method { (graph : PlainGraph) → IsShaped graph → IsGraph graph → (node : ℕ) →
+        Finds (IsMethodAbove graph node) (method_at graph node) }
 {}

@@ -4,8 +4,8 @@
 
 mod above;
 mod argument;
-mod child_test;
 pub mod laws;
+mod node_test;
 mod part;
 mod places;
 #[cfg(test)]

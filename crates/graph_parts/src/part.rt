@@ -6,7 +6,7 @@ ghost use Rattle.edge_index.specs.Indexed.{IsIndexOf};
 ghost use Rattle.graph_parts.specs.Finds.{Finds, IsLeast};
 ghost use Rattle.graph_parts.specs.Parts.{IsChildWith, IsChildOf, IsNumbered, IsPart};
 
-use crate::child_test::{ChildTest, Numbered, OfLabel, OfOrder};
+use crate::node_test::{NodeTest, OfBoth, OfLabel, OfOrder};
 use cpg_schema::{EdgeKind, Label};
 use edge_index::Index;
 use graph_store::Graph;
@@ -44,11 +44,11 @@ pub fn numbered(graph: &Graph, index: &Index, node: u32, label: Label, i: u32) -
     ensures child { Finds (IsNumbered (plain graph.now) label i node) result }
     ensures within { IfSome result (λ child. child < length graph.now.nodes) }
 {
-    first_child(graph, index, node, &Numbered { label, order: i })
+    first_child(graph, index, node, &OfBoth { label, order: i })
 }
 
 /// The least child of a node that passes a test.
-fn first_child<T: ChildTest>(graph: &Graph, index: &Index, node: u32, test: &T) -> Option<u32>
+fn first_child<T: NodeTest>(graph: &Graph, index: &Index, node: u32, test: &T) -> Option<u32>
     requires index { IsIndexOf graph.now index.now }
     requires inside { node < length graph.now.nodes }
     ensures child { Finds (IsLeast (IsChildWith (plain graph.now) (T.Has test.now) node)) result }

@@ -10,6 +10,7 @@ ghost use Rattle.graph_parts.specs.Walking.{GoesOn, HasAll, HasChildren, HasRoot
 ghost use Rattle.graph_parts.specs.Walking.{IsPlace, IsPlaced, IsWalk};
 
 use crate::above::parent_of;
+use crate::node_test::has_label;
 use crate::places::NO_NODE;
 use cpg_schema::{EdgeKind, Label};
 use edge_index::Index;
@@ -91,7 +92,7 @@ impl Walk {
     {
         law_stored(graph);
         let root = self.roots[node as usize];
-        let method = if graph.node(node) == Label::Method {
+        let method = if has_label(graph, node, Label::Method) {
             node
         } else {
             self.methods[node as usize]
