@@ -46,6 +46,7 @@ pub(crate) trait NodeTest {
 }
 
 /// To have this ORDER.
+#[derive(Drop)]
 pub(crate) struct OfOrder {
     pub(crate) order: u32,
 }
@@ -59,6 +60,7 @@ impl NodeTest for OfOrder {
 }
 
 /// To have this label.
+#[derive(Drop)]
 pub(crate) struct OfLabel {
     pub(crate) label: Label,
 }
@@ -72,6 +74,7 @@ impl NodeTest for OfLabel {
 }
 
 /// To have this label and this ORDER.
+#[derive(Drop)]
 pub(crate) struct OfBoth {
     pub(crate) label: Label,
     pub(crate) order: u32,
