@@ -1,7 +1,7 @@
 -- The edges that the units add (ours): AST, SOURCE_FILE, CONTAINS and PARAMETER_LINK. New node 0 of
 -- a unit is its FILE, and new node 1 its NAMESPACE_BLOCK.
-use Rattle.std.specs.Prelude.{ℕ, suc, ◌+◌, ◌==◌, ◌&&◌, Bool, List, [], ◌∷◌, ◌++◌, Option, Some, None}
-use Rattle.std.specs.Prelude.{if◌then◌else◌, flat_map, slice_get}
+use Rattle.std.specs.Prelude.{ℕ, ◌+◌, ◌==◌, ◌&&◌, List, [], ◌∷◌, ◌++◌, Option, Some, None}
+use Rattle.std.specs.Prelude.{if◌then◌else◌}
 use Rattle.std.specs.List.{list_any}
 use Rattle.cpg_schema.specs.declared.end.End.{End}
 use Rattle.cpg_schema.specs.declared.end.End.TheVariants.{Old, New}
@@ -9,7 +9,7 @@ use Rattle.cpg_schema.specs.declared.label.Label.TheVariants.{Block, Call, Metho
 use Rattle.cpg_schema.specs.declared.edge_kind.EdgeKind.{EdgeKind}
 use Rattle.cpg_schema.specs.declared.edge_kind.EdgeKind.TheVariants as edge_kind
 use Rattle.cpg_schema.specs.Names.{kind_rank}
-use Rattle.cpg_schema.specs.Graph.{PlainEdge, PlainGraph}
+use Rattle.cpg_schema.specs.Graph.{PlainGraph}
 use Rattle.cpg_schema.specs.Deltas.{NewEdge}
 use Rattle.graph_parts.specs.NodesAbove.{is_labelled, method_at, parent_at}
 
