@@ -108,11 +108,11 @@ module _ (tokens : Tokens) {stage : Stage} {level room : ℕ} (fits : HasRoom st
 
   -- ---- Members (6.7.2.1)
 
-  module _ (value : ℕ → Part Assign) (read_value : PartReader Assign) (rv : {given_v : Type 0} → IsRead tokens stage given_v value read_value no (begins_assign Constant) (λ a. after_assign)) where
+  module _ (value : ℕ → Part Assign) (read_value : PartReader Assign) (rv : (given_v : Type 0) → IsRead tokens stage given_v value read_value no (begins_assign Constant) (λ a. after_assign)) where
     pub bit_field_is_read : {given : Type 0} (named : Named) → IsRead tokens stage given (λ d. lang.bit_field d level (inner d) (value d) named) (read.bit_field room readers read_value named) no (mark MARK_COLON ∷ []) (λ a. after_member_declarator)
     unfolding lang.bit_field read.bit_field
     bit_field_is_read named =
-        read_token fits (sample tokens (mark MARK_COLON ∷ []) (Mark MARK_COLON) refl refl refl) (λ c. read_map (λ v. undefined (with_width named.declarator c v)) (λ a. after_member_declarator) rv (λ a. refl))
+        read_token fits (sample tokens (mark MARK_COLON ∷ []) (Mark MARK_COLON) refl refl refl) (λ c. read_map (λ v. undefined (with_width named.declarator c v)) (λ a. after_member_declarator) (rv _) (λ a. refl))
 
     pub named_member_is_read : {given : Type 0} (atomic : Bool) → IsRead tokens stage given (λ d. lang.named_member d level (inner d) (value d) atomic) (read.named_member room readers read_value atomic) no (begins_declarator atomic) (λ a. after_member_declarator)
     unfolding lang.named_member read.named_member
@@ -194,7 +194,7 @@ module _ (tokens : Tokens) {stage : Stage} {level room : ℕ} (fits : HasRoom st
 
   -- ---- Declarations (6.7)
 
-  module _ (value : ℕ → Part Assign) (read_value : PartReader Assign) (rv : {given_v : Type 0} → IsRead tokens stage given_v value read_value no (begins_assign Whole) (λ a. after_assign)) where
+  module _ (value : ℕ → Part Assign) (read_value : PartReader Assign) (rv : (given_v : Type 0) → IsRead tokens stage given_v value read_value no (begins_assign Whole) (λ a. after_assign)) where
     pub declared_is_read : {given : Type 0} (typedef : Bool) (atomic : Bool) → IsRead tokens stage given (λ d. lang.declared d level (inner d) (value d) typedef atomic) (read.declared room readers read_value typedef atomic) no (begins_declarator atomic) (λ a. begins_suffix)
     unfolding lang.declared read.declared
     declared_is_read typedef atomic =

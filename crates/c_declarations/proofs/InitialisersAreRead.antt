@@ -129,11 +129,11 @@ module _ (tokens : Tokens) {stage : Stage} {level room : ℕ} (fits : HasRoom st
 
   -- ---- Initialisers
 
-  module _ (value : ℕ → Part Assign) (read_value : PartReader Assign) (rv : {given_v : Type 0} → IsRead tokens stage given_v value read_value no (begins_assign Whole) (λ a. after_assign)) where
+  module _ (value : ℕ → Part Assign) (read_value : PartReader Assign) (rv : (given_v : Type 0) → IsRead tokens stage given_v value read_value no (begins_assign Whole) (λ a. after_assign)) where
     pub init_value_is_read : {given : Type 0} → IsRead tokens stage given (λ d. lang.init_value d level (inner d) (value d)) (read.init_value room readers read_value) no (begins_assign Whole) (λ a. after_assign)
     unfolding lang.init_value read.init_value
     init_value_is_read =
-        read_map (λ v. init.Value (sole v)) (λ a. after_assign) rv (λ a. refl)
+        read_map (λ v. init.Value (sole v)) (λ a. after_assign) (rv _) (λ a. refl)
 
     pub initialiser_is_read : {given : Type 0} → IsRead tokens stage given (λ d. lang.initialiser d level (inner d) (value d)) (read.initialiser room readers read_value) no begins_init (λ a. after_assign)
     unfolding lang.initialiser read.initialiser
