@@ -95,8 +95,9 @@ impl<N: Inside> Grammar<N> {
     ) -> Result<InitDeclarator, Stop>
         requires inside { N.can_read self.now.inside self.now.room }
         requires value { N.can_read_value self.now.inside self.now.room }
-        ensures { GivesHere (λ room inner value. spec.bit_field room inner value named) AssignForm.Constant
-            self.now.room (N.readers self.now.inside) source.old result source.new }
+        ensures { GivesHere (λ room inner value. spec.bit_field room inner value named)
+            AssignForm.Constant self.now.room (N.readers self.now.inside)
+            source.old result source.new }
     {
         let colon = source.expect_mark(MARK_COLON, self.room)?;
         let width = self.value(AssignForm::Constant, source)?;
@@ -125,8 +126,9 @@ impl<N: Inside> Grammar<N> {
     ) -> Result<InitDeclarator, Stop>
         requires inside { N.can_read self.now.inside self.now.room }
         requires value { N.can_read_value self.now.inside self.now.room }
-        ensures { GivesHere (λ room inner value. spec.named_member room inner value atomic) AssignForm.Constant
-            self.now.room (N.readers self.now.inside) source.old result source.new }
+        ensures { GivesHere (λ room inner value. spec.named_member room inner value atomic)
+            AssignForm.Constant self.now.room (N.readers self.now.inside)
+            source.old result source.new }
     {
         let named = self.declarator(atomic, source)?;
         if source.is_at_mark(MARK_COLON) {
@@ -145,8 +147,9 @@ impl<N: Inside> Grammar<N> {
     ) -> Result<InitDeclarator, Stop>
         requires inside { N.can_read self.now.inside self.now.room }
         requires value { N.can_read_value self.now.inside self.now.room }
-        ensures { GivesHere (λ room inner value. spec.member_declarator room inner value atomic) AssignForm.Constant
-            self.now.room (N.readers self.now.inside) source.old result source.new }
+        ensures { GivesHere (λ room inner value. spec.member_declarator room inner value atomic)
+            AssignForm.Constant self.now.room (N.readers self.now.inside)
+            source.old result source.new }
     {
         if source.is_at_mark(MARK_COLON) {
             let nothing = Named::pointing(self.alloc, Pointing::none(self.alloc, false));
@@ -164,8 +167,10 @@ impl<N: Inside> Grammar<N> {
     ) -> Result<Turn<Declarators, Declarators>, Stop>
         requires inside { N.can_read self.now.inside self.now.room }
         requires value { N.can_read_value self.now.inside self.now.room }
-        ensures { GivesHere (λ room inner value. spec.last_member_declarator room inner value declarators) AssignForm.Constant
-            self.now.room (N.readers self.now.inside) source.old result source.new }
+        ensures { GivesHere
+            (λ room inner value. spec.last_member_declarator room inner value declarators)
+            AssignForm.Constant self.now.room (N.readers self.now.inside)
+            source.old result source.new }
     {
         let semicolon = source.expect_mark(MARK_SEMICOLON, self.room)?;
         Ok(Turn::Done(declarators.to(semicolon)?))
@@ -179,8 +184,10 @@ impl<N: Inside> Grammar<N> {
     ) -> Result<Turn<Declarators, Declarators>, Stop>
         requires inside { N.can_read self.now.inside self.now.room }
         requires value { N.can_read_value self.now.inside self.now.room }
-        ensures { GivesHere (λ room inner value. spec.next_member_declarator room inner value declarators) AssignForm.Constant
-            self.now.room (N.readers self.now.inside) source.old result source.new }
+        ensures { GivesHere
+            (λ room inner value. spec.next_member_declarator room inner value declarators)
+            AssignForm.Constant self.now.room (N.readers self.now.inside)
+            source.old result source.new }
     {
         let comma = source.expect_mark(MARK_COMMA, self.room)?;
         let declarators = declarators.to(comma)?;
@@ -196,8 +203,10 @@ impl<N: Inside> Grammar<N> {
     ) -> Result<Turn<Declarators, Declarators>, Stop>
         requires inside { N.can_read self.now.inside self.now.room }
         requires value { N.can_read_value self.now.inside self.now.room }
-        ensures { GivesHere (λ room inner value. spec.member_declarator_turn room inner value declarators) AssignForm.Constant
-            self.now.room (N.readers self.now.inside) source.old result source.new }
+        ensures { GivesHere
+            (λ room inner value. spec.member_declarator_turn room inner value declarators)
+            AssignForm.Constant self.now.room (N.readers self.now.inside)
+            source.old result source.new }
     {
         if source.is_at_mark(MARK_COMMA) {
             self.next_member_declarator(declarators, source)
@@ -213,8 +222,10 @@ impl<N: Inside> Grammar<N> {
     ) -> Result<Declarators, Stop>
         requires inside { N.can_read self.now.inside self.now.room }
         requires value { N.can_read_value self.now.inside self.now.room }
-        ensures { GivesHere (λ room inner value. spec.more_member_declarators room inner value declarators) AssignForm.Constant
-            self.now.room (N.readers self.now.inside) source.old result source.new }
+        ensures { GivesHere
+            (λ room inner value. spec.more_member_declarators room inner value declarators)
+            AssignForm.Constant self.now.room (N.readers self.now.inside)
+            source.old result source.new }
     {
         let mut declarators = declarators;
         for _turn in 0..source.left() {
@@ -234,8 +245,10 @@ impl<N: Inside> Grammar<N> {
     ) -> Result<Declarators, Stop>
         requires inside { N.can_read self.now.inside self.now.room }
         requires value { N.can_read_value self.now.inside self.now.room }
-        ensures { GivesHere (λ room inner value. spec.some_member_declarators room inner value atomic) AssignForm.Constant
-            self.now.room (N.readers self.now.inside) source.old result source.new }
+        ensures { GivesHere
+            (λ room inner value. spec.some_member_declarators room inner value atomic)
+            AssignForm.Constant self.now.room (N.readers self.now.inside)
+            source.old result source.new }
     {
         let first = self.member_declarator(atomic, source)?;
         let declarators = Declarators::none(self.alloc).with(first)?;
@@ -261,8 +274,9 @@ impl<N: Inside> Grammar<N> {
     ) -> Result<Declarators, Stop>
         requires inside { N.can_read self.now.inside self.now.room }
         requires value { N.can_read_value self.now.inside self.now.room }
-        ensures { GivesHere (λ room inner value. spec.member_declarators room inner value atomic) AssignForm.Constant
-            self.now.room (N.readers self.now.inside) source.old result source.new }
+        ensures { GivesHere (λ room inner value. spec.member_declarators room inner value atomic)
+            AssignForm.Constant self.now.room (N.readers self.now.inside)
+            source.old result source.new }
     {
         if source.is_at_mark(MARK_SEMICOLON) {
             self.no_member_declarators(source)
@@ -309,11 +323,12 @@ impl<N: Inside> Grammar<N> {
     ) -> Result<Named<'t>, Stop>
         requires inside { N.can_read self.now.inside self.now.room }
         requires value { N.can_read_value self.now.inside self.now.room }
-        ensures { GivesHere (λ room inner value. spec.declared room inner value typedef atomic) AssignForm.Whole
-            self.now.room (N.readers self.now.inside) source.old result source.new }
+        ensures { GivesHere (λ room inner value. spec.declared room inner value typedef atomic)
+            AssignForm.Whole self.now.room (N.readers self.now.inside)
+            source.old result source.new }
     {
         let named = self.declarator(atomic, source)?;
-        declare(named.name.as_ref(), typedef, source)?;
+        declare(&named.name, typedef, source)?;
         Ok(named)
     }
 
@@ -325,8 +340,9 @@ impl<N: Inside> Grammar<N> {
     ) -> Result<InitDeclarator, Stop>
         requires inside { N.can_read self.now.inside self.now.room }
         requires value { N.can_read_value self.now.inside self.now.room }
-        ensures { GivesHere (λ room inner value. spec.initialised room inner value named) AssignForm.Whole
-            self.now.room (N.readers self.now.inside) source.old result source.new }
+        ensures { GivesHere (λ room inner value. spec.initialised room inner value named)
+            AssignForm.Whole self.now.room (N.readers self.now.inside)
+            source.old result source.new }
     {
         let equals = source.expect_mark(MARK_EQUAL, self.room)?;
         let init = self.initialiser(source)?;
@@ -346,8 +362,10 @@ impl<N: Inside> Grammar<N> {
     ) -> Result<InitDeclarator, Stop>
         requires inside { N.can_read self.now.inside self.now.room }
         requires value { N.can_read_value self.now.inside self.now.room }
-        ensures { GivesHere (λ room inner value. spec.init_declarator room inner value typedef atomic) AssignForm.Whole
-            self.now.room (N.readers self.now.inside) source.old result source.new }
+        ensures { GivesHere
+            (λ room inner value. spec.init_declarator room inner value typedef atomic)
+            AssignForm.Whole self.now.room (N.readers self.now.inside)
+            source.old result source.new }
     {
         let named = self.declared(typedef, atomic, source)?;
         if source.is_at_mark(MARK_EQUAL) {
@@ -365,8 +383,9 @@ impl<N: Inside> Grammar<N> {
     ) -> Result<Turn<Declarators, Declarators>, Stop>
         requires inside { N.can_read self.now.inside self.now.room }
         requires value { N.can_read_value self.now.inside self.now.room }
-        ensures { GivesHere (λ room inner value. spec.last_declarator room inner value declarators) AssignForm.Whole
-            self.now.room (N.readers self.now.inside) source.old result source.new }
+        ensures { GivesHere (λ room inner value. spec.last_declarator room inner value declarators)
+            AssignForm.Whole self.now.room (N.readers self.now.inside)
+            source.old result source.new }
     {
         let semicolon = source.expect_mark(MARK_SEMICOLON, self.room)?;
         Ok(Turn::Done(declarators.to(semicolon)?))
@@ -381,8 +400,10 @@ impl<N: Inside> Grammar<N> {
     ) -> Result<Turn<Declarators, Declarators>, Stop>
         requires inside { N.can_read self.now.inside self.now.room }
         requires value { N.can_read_value self.now.inside self.now.room }
-        ensures { GivesHere (λ room inner value. spec.next_declarator room inner value typedef declarators) AssignForm.Whole
-            self.now.room (N.readers self.now.inside) source.old result source.new }
+        ensures { GivesHere
+            (λ room inner value. spec.next_declarator room inner value typedef declarators)
+            AssignForm.Whole self.now.room (N.readers self.now.inside)
+            source.old result source.new }
     {
         let comma = source.expect_mark(MARK_COMMA, self.room)?;
         let declarators = declarators.to(comma)?;
@@ -399,8 +420,10 @@ impl<N: Inside> Grammar<N> {
     ) -> Result<Turn<Declarators, Declarators>, Stop>
         requires inside { N.can_read self.now.inside self.now.room }
         requires value { N.can_read_value self.now.inside self.now.room }
-        ensures { GivesHere (λ room inner value. spec.declarator_turn room inner value typedef declarators) AssignForm.Whole
-            self.now.room (N.readers self.now.inside) source.old result source.new }
+        ensures { GivesHere
+            (λ room inner value. spec.declarator_turn room inner value typedef declarators)
+            AssignForm.Whole self.now.room (N.readers self.now.inside)
+            source.old result source.new }
     {
         if source.is_at_mark(MARK_COMMA) {
             self.next_declarator(typedef, declarators, source)
@@ -418,8 +441,10 @@ impl<N: Inside> Grammar<N> {
     ) -> Result<Declarators, Stop>
         requires inside { N.can_read self.now.inside self.now.room }
         requires value { N.can_read_value self.now.inside self.now.room }
-        ensures { GivesHere (λ room inner value. spec.more_declarators room inner value typedef declarators) AssignForm.Whole
-            self.now.room (N.readers self.now.inside) source.old result source.new }
+        ensures { GivesHere
+            (λ room inner value. spec.more_declarators room inner value typedef declarators)
+            AssignForm.Whole self.now.room (N.readers self.now.inside)
+            source.old result source.new }
     {
         let mut declarators = declarators;
         for _turn in 0..source.left() {
@@ -440,8 +465,10 @@ impl<N: Inside> Grammar<N> {
     ) -> Result<Declarators, Stop>
         requires inside { N.can_read self.now.inside self.now.room }
         requires value { N.can_read_value self.now.inside self.now.room }
-        ensures { GivesHere (λ room inner value. spec.some_declarators room inner value typedef atomic) AssignForm.Whole
-            self.now.room (N.readers self.now.inside) source.old result source.new }
+        ensures { GivesHere
+            (λ room inner value. spec.some_declarators room inner value typedef atomic)
+            AssignForm.Whole self.now.room (N.readers self.now.inside)
+            source.old result source.new }
     {
         let first = self.init_declarator(typedef, atomic, source)?;
         let declarators = Declarators::none(self.alloc).with(first)?;
@@ -468,8 +495,9 @@ impl<N: Inside> Grammar<N> {
     ) -> Result<Declarators, Stop>
         requires inside { N.can_read self.now.inside self.now.room }
         requires value { N.can_read_value self.now.inside self.now.room }
-        ensures { GivesHere (λ room inner value. spec.declarators room inner value typedef atomic) AssignForm.Whole
-            self.now.room (N.readers self.now.inside) source.old result source.new }
+        ensures { GivesHere (λ room inner value. spec.declarators room inner value typedef atomic)
+            AssignForm.Whole self.now.room (N.readers self.now.inside)
+            source.old result source.new }
     {
         if source.is_at_mark(MARK_SEMICOLON) {
             self.no_more_declarators(source)

@@ -587,7 +587,7 @@ impl<N: Inside> Grammar<N> {
             self.now.room (N.readers self.now.inside) source.old result source.new }
     {
         let NamedParam { param, name } = self.undeclared_param(source)?;
-        declare(name.as_ref(), false, source)?;
+        declare(&name, false, source)?;
         Ok(param)
     }
 

@@ -116,8 +116,8 @@ impl<N: Inside> Grammar<N> {
     /// An assignment expression on the level.
     pub(crate) fn value(&self, form: AssignForm, source: &mut Source<'_>) -> Result<Assign, Stop>
         requires { N.can_read_value self.now.inside self.now.room }
-        ensures { Reads ((N.readers self.now.inside (self.now.room + 1)).assign form (input_from source.old))
-            result (input_from source.new) }
+        ensures { Reads ((N.readers self.now.inside (self.now.room + 1)).assign form
+            (input_from source.old)) result (input_from source.new) }
     {
         self.inside.value(self.alloc, form, self.room, source)
     }
@@ -128,7 +128,8 @@ impl<N: Inside> Grammar<N> {
         source: &mut Source<'_>,
     ) -> Result<Assign, Stop>
         requires { N.can_read self.now.inside self.now.room }
-        ensures { Reads ((N.readers self.now.inside self.now.room).assign form (input_from source.old)) result
+        ensures { Reads ((N.readers self.now.inside self.now.room).assign form
+            (input_from source.old)) result
             (input_from source.new) }
     {
         self.inside.assign(self.alloc, form, self.room, source)
@@ -136,7 +137,8 @@ impl<N: Inside> Grammar<N> {
 
     pub(crate) fn inner_type_name(&self, source: &mut Source<'_>) -> Result<TypeName, Stop>
         requires { N.can_read self.now.inside self.now.room }
-        ensures { Reads ((N.readers self.now.inside self.now.room).type_name (input_from source.old)) result
+        ensures { Reads ((N.readers self.now.inside self.now.room).type_name
+            (input_from source.old)) result
             (input_from source.new) }
     {
         self.inside.type_name(self.alloc, self.room, source)
@@ -144,7 +146,8 @@ impl<N: Inside> Grammar<N> {
 
     pub(crate) fn inner_param(&self, source: &mut Source<'_>) -> Result<Param, Stop>
         requires { N.can_read self.now.inside self.now.room }
-        ensures { Reads ((N.readers self.now.inside self.now.room).param (input_from source.old)) result
+        ensures { Reads ((N.readers self.now.inside self.now.room).param
+            (input_from source.old)) result
             (input_from source.new) }
     {
         self.inside.param(self.alloc, self.room, source)
@@ -152,7 +155,8 @@ impl<N: Inside> Grammar<N> {
 
     pub(crate) fn inner_member(&self, source: &mut Source<'_>) -> Result<Declaration, Stop>
         requires { N.can_read self.now.inside self.now.room }
-        ensures { Reads ((N.readers self.now.inside self.now.room).member (input_from source.old)) result
+        ensures { Reads ((N.readers self.now.inside self.now.room).member
+            (input_from source.old)) result
             (input_from source.new) }
     {
         self.inside.member(self.alloc, self.room, source)
@@ -164,7 +168,8 @@ impl<N: Inside> Grammar<N> {
         source: &mut Source<'t>,
     ) -> Result<Named<'t>, Stop>
         requires { N.can_read self.now.inside self.now.room }
-        ensures { Reads ((N.readers self.now.inside self.now.room).group naming (input_from source.old)) result
+        ensures { Reads ((N.readers self.now.inside self.now.room).group naming
+            (input_from source.old)) result
             (input_from source.new) }
     {
         self.inside.group(self.alloc, naming, self.room, source)
@@ -172,7 +177,8 @@ impl<N: Inside> Grammar<N> {
 
     pub(crate) fn inner_item(&self, source: &mut Source<'_>) -> Result<InitItem, Stop>
         requires { N.can_read self.now.inside self.now.room }
-        ensures { Reads ((N.readers self.now.inside self.now.room).item (input_from source.old)) result
+        ensures { Reads ((N.readers self.now.inside self.now.room).item
+            (input_from source.old)) result
             (input_from source.new) }
     {
         self.inside.item(self.alloc, self.room, source)

@@ -7,7 +7,7 @@ ghost use Rattle.c_declarations.specs.SpecifierReaders as spec;
 use crate::forms::{AssignForm, Enumerators, Members, NamedEnumerator, Place, Specified, Word};
 use crate::grammar::{Grammar, Inside};
 use crate::steps::{
-    declare, expect_function_specifier, expect_plain_qualifier, expect_record,
+    declare_word, expect_function_specifier, expect_plain_qualifier, expect_record,
     expect_storage_class, expect_word, is_at_function_specifier, is_at_more_specifiers,
     is_at_record, is_at_specifiers, is_at_storage_class, is_at_type_specifier, is_at_word,
 };
@@ -440,7 +440,7 @@ impl<N: Inside> Grammar<N> {
             self.now.room (N.readers self.now.inside) source.old result source.new }
     {
         let NamedEnumerator { enumerator, name } = self.undeclared_enumerator(source)?;
-        declare(Some(&name), false, source)?;
+        declare_word(&name, false, source)?;
         Ok(enumerator)
     }
 

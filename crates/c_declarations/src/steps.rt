@@ -11,11 +11,12 @@ ghost use Rattle.c_declarations.specs.DeclarationSets.{begins_designator, begins
 ghost use Rattle.c_declarations.specs.DeclarationSets.{begins_modifier, begins_params};
 ghost use Rattle.c_declarations.specs.DeclarationSets.{begins_specifiers, begins_suffix};
 ghost use Rattle.c_declarations.specs.DeclarationSets.{begins_type, begins_unnamed, begins_word};
-ghost use Rattle.c_declarations.specs.DeclarationSteps.{declare as declare_as, expect_word as expects};
+ghost use Rattle.c_declarations.specs.DeclarationSteps.{declare as declares};
+ghost use Rattle.c_declarations.specs.DeclarationSteps.{expect_word as expects};
 ghost use Rattle.c_declarations.specs.declared.forms.Place.TheVariants.{Parameter};
 ghost use Rattle.c_syntax.specs.Scoping.{input_from, terminal_of};
 ghost use Rattle.c_syntax.specs.Sets.{a_name, any_name};
-ghost use Rattle.c_syntax.specs.Steps.{expect_among};
+ghost use Rattle.c_syntax.specs.Steps.{expect_among, take_where};
 ghost use Rattle.reading.specs.Readers.{is_ahead};
 
 use crate::forms::{Place, Word};
@@ -197,7 +198,10 @@ pub(crate) fn is_at_designator(source: &Source<'_>) -> bool
 // ---- What is taken
 
 /// Takes the next token, if it may stand there.
-fn take_if(may_stand: bool, room: usize, source: &mut Source<'_>) -> Result<u32, Stop> {
+fn take_if(may_stand: bool, room: usize, source: &mut Source<'_>) -> Result<u32, Stop>
+    ensures { Reads (take_where may_stand room (input_from source.old)) result
+        (input_from source.new) }
+{
     if may_stand {
         source.cursor.take(room)
     } else {
@@ -267,16 +271,32 @@ pub(crate) fn expect_other_word<'t>(room: usize, source: &mut Source<'t>) -> Res
 
 // ---- Scopes
 
-/// Declares a name, where there is one.
-pub(crate) fn declare(
-    name: Option<&Word<'_>>,
+/// Declares a name.
+pub(crate) fn declare_word(
+    word: &Word<'_>,
     typedef: bool,
     source: &mut Source<'_>,
-) -> Result<(), Stop> {
-    if let Some(word) = name {
-        source.scopes.declare(word.bytes, typedef)?;
-    }
+) -> Result<(), Stop>
+    ensures { Reads (declares (Some word.now) typedef tt (input_from source.old)) result
+        (input_from source.new) }
+{
+    source.scopes.declare(word.bytes, typedef)?;
     Ok(())
+}
+
+/// Declares a name, where there is one.
+pub(crate) fn declare(
+    name: &Option<Word<'_>>,
+    typedef: bool,
+    source: &mut Source<'_>,
+) -> Result<(), Stop>
+    ensures { Reads (declares name.now typedef tt (input_from source.old)) result
+        (input_from source.new) }
+{
+    match name {
+        Some(word) => declare_word(word, typedef, source),
+        None => Ok(()),
+    }
 }
 
 /// Leaves the innermost scope.
