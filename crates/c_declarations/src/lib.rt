@@ -9,8 +9,6 @@ mod grammar;
 mod initialiser;
 mod specifier;
 mod steps;
-#[cfg(test)]
-mod tests;
 
 pub use forms::{
     AssignForm, Declarators, Enumerators, Items, Members, Named, NamedEnumerator, NamedParam,
