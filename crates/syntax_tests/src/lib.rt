@@ -1,5 +1,5 @@
-//! Tests of the syntax of C across its crates: tokens, which are kept, files and their
-//! trees, and what trees spell.
+//! Tests of the syntax of C across its crates: tokens, which are kept, expressions, files and
+//! their trees, and what trees spell.
 #![tactic(auto)]
 
 #[cfg(test)]
@@ -8,5 +8,7 @@ mod first_files;
 mod kept_tokens;
 #[cfg(test)]
 mod lexed_tokens;
+#[cfg(test)]
+mod read_expressions;
 #[cfg(test)]
 mod spelled_trees;

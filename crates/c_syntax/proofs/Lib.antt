@@ -1,0 +1,6 @@
+pub mod Typedefs
+pub mod Ahead
+pub mod Readings
+pub mod TypeNamesAreRead
+pub mod ExpressionsAreRead
+pub mod WholeExpressions

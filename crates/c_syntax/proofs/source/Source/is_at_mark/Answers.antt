@@ -1,0 +1,6 @@
+use Rattle.std.proofs.Common.{◌∙◌}
+use Rattle.c_syntax.proofs.Ahead.{mark_ahead}
+use Rattle.c_syntax.proofs.source.Source.is_at_mark.Goals as goal
+
+pub returns : goal.returns
+returns c = c.is_at.ensures ∙ mark_ahead c.args.number c.args.self.now.cursor c.args.self.now.scopes

@@ -1,0 +1,10 @@
+use Rattle.std.proofs.Common.{refl, sym, ◌∙◌}
+use Rattle.c_syntax.specs.Sets.{a_step}
+use Rattle.c_syntax.proofs.Ahead.{kind_ahead, nothing_ahead}
+use Rattle.c_syntax.proofs.source.Source.is_at_step.Goals as goal
+
+pub returns-in-Some : goal.returns-in-Some
+returns-in-Some c = c.is_step.ensures ∙ kind_ahead a_step refl c.args.self.now.cursor c.args.self.now.scopes c.in-Some.kind (sym c.in-Some.ensures)
+
+pub returns-in-None : goal.returns-in-None
+returns-in-None c = nothing_ahead a_step refl c.args.self.now.cursor c.args.self.now.scopes (sym c.in-None.ensures)

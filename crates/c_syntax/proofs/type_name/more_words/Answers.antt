@@ -1,0 +1,38 @@
+use Rattle.std.proofs.Common.{rules, arith, [], ◌∷◌}
+use Rattle.c_reading.specs.Terminals.{TEXT, mark}
+use Rattle.c_lexer.specs.declared.mark.TheConstants.{MARK_COMMA, MARK_QUESTION, MARK_STAR}
+use Rattle.reading.specs.Readers.{go_on, many}
+use Rattle.c_syntax.specs.Scoping.{terminal_of, input_from}
+use Rattle.c_syntax.specs.Sets.{a_suffix, a_binary, a_basic_type}
+use Rattle.c_syntax.specs.TypeNameReaders.{more_words, one_more_word}
+use Rattle.std.proofs.lemmas.Grind.{common_steps}
+use Rattle.reading.proofs.Turns.{one_turn, no_turn}
+use Rattle.c_syntax.proofs.type_name.more_words.Goals as goal
+
+pub loop-turn-init : goal.loop-turn-init
+unfolding more_words many
+loop-turn-init c = first_of (search rules, grind (arith, common_steps))
+
+pub returns-then-not-is_at_basic_type : goal.returns-then-not-is_at_basic_type
+unfolding go_on
+returns-then-not-is_at_basic_type c =
+    let e = one_turn (λ n. go_on terminal_of a_basic_type (one_more_word c.args.room) n c.loop-turn.words (input_from c.loop-turn.source)) _ c.loop-turn._turn c.loop-turn-test.true c.loop-turn.invariant in
+    first_of (search rules, grind (arith, common_steps))
+
+pub returns-in_err-words : goal.returns-in_err-words
+unfolding go_on
+returns-in_err-words c =
+    let e = one_turn (λ n. go_on terminal_of a_basic_type (one_more_word c.args.room) n c.loop-turn.words (input_from c.loop-turn.source)) _ c.loop-turn._turn c.loop-turn-test.true c.loop-turn.invariant in
+    first_of (search rules, grind (arith, common_steps))
+
+pub loop-turn-preserved : goal.loop-turn-preserved
+unfolding go_on
+loop-turn-preserved c =
+    let e = one_turn (λ n. go_on terminal_of a_basic_type (one_more_word c.args.room) n c.loop-turn.words (input_from c.loop-turn.source)) _ c.loop-turn._turn c.loop-turn-test.true c.loop-turn.invariant in
+    first_of (search rules, grind (arith, common_steps))
+
+pub returns : goal.returns
+unfolding go_on
+returns c =
+    let e = no_turn (λ n. go_on terminal_of a_basic_type (one_more_word c.args.room) n c.loop-turn.words (input_from c.loop-turn.source)) _ c.loop-turn._turn c.loop-turn-test.false c.loop-turn.invariant in
+    first_of (search rules, grind (arith, common_steps))

@@ -1,0 +1,10 @@
+pub mod Scoping
+pub mod Sets
+pub mod Forms
+pub mod Steps
+pub mod TypeNameRules
+pub mod ExpressionRules
+pub mod TypeNameReaders
+pub mod ExpressionReaders
+pub mod Nests
+pub mod ExactExpressions

@@ -1,0 +1,15 @@
+//! Expressions of C, read from kept tokens (C11 6.5).
+#![tactic(auto)]
+
+mod entry;
+mod expression;
+mod forms;
+mod grammar;
+mod kinds;
+pub mod laws;
+mod operand;
+mod source;
+mod suffix;
+mod type_name;
+
+pub use entry::read_expr;
