@@ -12,7 +12,7 @@ use Rattle.std.proofs.lemmas.List.Elements.{Contains-get_or}
 use Rattle.std.proofs.lemmas.Option.{slice_get-get_or, get_or_from_slice_get}
 use Rattle.name_table.specs.Names.{IsNumberOf}
 use Rattle.c_scopes.proofs.Firsts.{first_here, first_behind, first_cases, nothing_first}
-use Rattle.c_scopes.specs.Scopes.{Declared, declarations_in, IsTypedefName}
+use Rattle.c_scopes.specs.Scopes.{Declared, declarations_in, IsTypedefName, left}
 use Rattle.c_scopes.specs.KeptScopes.{scopes_after, scopes_in, is_typedef_after, AreSteps, IsKept}
 use Rattle.c_scopes.specs.declared.scopes.Step.{Step}
 use Rattle.c_scopes.specs.declared.scopes.Step.TheVariants.{Opens, Declares, Others}
@@ -152,8 +152,8 @@ tells_none names typedefs texts steps name kept absent = (
   λ first. absurd (undeclared names texts name (reverse steps) absent kept.recorded first),
 )
 
--- the file's scope has nothing around it
-pub nothing_around : (names : List (List ℕ)) (texts : List ℕ) (steps : List Step) →
-    steps ≡ [] → (scopes_in names texts steps).around ≡ []
+-- where no step is left, the file's scope is as it begins
+pub begun_anew : (names : List (List ℕ)) (texts : List ℕ) (steps : List Step) →
+    steps ≡ [] → scopes_in names texts steps ≡ left (scopes_in names texts steps)
 unfolding scopes_in
-nothing_around names texts steps none = rw none refl
+begun_anew names texts steps none = rw none refl

@@ -8,9 +8,9 @@ use mathlib.Core.List.{reverse_aux}
 use Rattle.std.proofs.lemmas.List.{reverse-append, reverse-reverse, map-append}
 use Rattle.std.proofs.lemmas.Slice.Eq.{bytes_eq-Decides}
 use Rattle.c_scopes.specs.Scopes.{Declared, OpenScopes, file_scope, entered, declared}
-use Rattle.c_scopes.specs.Scopes.{declarations_in, IsFirstOf, IsTypedefName}
+use Rattle.c_scopes.specs.Scopes.{declarations_in, IsFirstOf, IsTypedefName, left}
 use Rattle.c_scopes.specs.Events.{Event, Opens, Closes, Declares, Uses, Lasts, IsDeclaredAs}
-use Rattle.c_scopes.specs.Events.{IsTypedefAt, left, after_event, after_events, events_in}
+use Rattle.c_scopes.specs.Events.{IsTypedefAt, after_event, after_events, events_in}
 use Rattle.c_scopes.specs.Events.{events_around, events_to}
 use Rattle.c_scopes.proofs.Firsts.{first_here, first_behind, first_cases, nothing_first}
 

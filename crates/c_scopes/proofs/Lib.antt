@@ -1,4 +1,4 @@
 mod Firsts
 mod Hiding
-mod Intervals
+pub mod Intervals
 mod Stepping

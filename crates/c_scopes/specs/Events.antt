@@ -3,7 +3,7 @@
 
 use Rattle.std.specs.Prelude.{ℕ, zero, suc, ◌≡◌, Bool, true, false, List, [], ◌∷◌, ◌++◌, map}
 use Rattle.std.specs.Prelude.{reverse}
-use Rattle.c_scopes.specs.Scopes.{Declared, OpenScopes, file_scope, entered, declared}
+use Rattle.c_scopes.specs.Scopes.{Declared, OpenScopes, entered, declared, left}
 
 -- What is met.
 pub data Event : Type 0 where
@@ -56,15 +56,6 @@ AreRight given events = (before after : List Event) (event : Event) →
     events ≡ before ++ event ∷ after → IsRight (given ++ before) event
 
 -- ---- Open scopes
-
--- What is around is left, of which the file's scope is the last; that begins anew where it is left.
-abbrev pub left_to : List (List Declared) → OpenScopes
-left_to [] = file_scope
-left_to (scope ∷ around) = record { innermost = scope; around = around }
-
--- The innermost scope is left.
-abbrev pub left : OpenScopes → OpenScopes
-left open_scopes = left_to open_scopes.around
 
 -- The scopes that are open after the event.
 abbrev pub after_event : OpenScopes → Event → OpenScopes

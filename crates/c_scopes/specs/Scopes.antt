@@ -29,13 +29,14 @@ declared open_scopes name typedef = record open_scopes {
   innermost = record { name = name; typedef = typedef } ∷ open_scopes.innermost;
 }
 
--- A scope is open in the file's.
-abbrev pub IsInside : OpenScopes → Type 0
-IsInside open_scopes = open_scopes.around ≢ []
+-- What is around is left, of which the file's scope is the last; that begins anew where it is left.
+abbrev pub left_to : List (List Declared) → OpenScopes
+left_to [] = file_scope
+left_to (scope ∷ around) = record { innermost = scope; around = around }
 
 -- The innermost scope ends, and its declarations with it (p4).
-abbrev pub Leaves : OpenScopes → OpenScopes → Type 0
-Leaves old new = old.around ≡ new.innermost ∷ new.around
+abbrev pub left : OpenScopes → OpenScopes
+left open_scopes = left_to open_scopes.around
 
 -- The declarations in open scopes, the latest first.
 abbrev pub declarations_in : OpenScopes → List Declared

@@ -3,7 +3,7 @@
 ghost use Rattle.std.specs.Prelude.{◌≡◌, ◌↔◌, Some, slice_get, IsTrue, IfOk, OnOk, OnErr};
 ghost use Rattle.std.specs.Prelude.{Contains, IfSome, IfNone};
 ghost use Rattle.std.specs.Bool.{OnTrue, OnFalse};
-ghost use Rattle.c_scopes.specs.Scopes.{file_scope, entered, declared, IsInside, Leaves};
+ghost use Rattle.c_scopes.specs.Scopes.{file_scope, entered, declared, left};
 ghost use Rattle.c_scopes.specs.Scopes.{IsTypedefName};
 ghost use Rattle.name_table.specs.Names.{IsNumberOf, Extends};
 ghost use Rattle.c_scopes.specs.KeptScopes.{Undeclares, KeepsTypedefs, AddsOther};
@@ -80,10 +80,10 @@ impl Scopes {
         Ok(())
     }
 
-    /// Leaves the innermost scope. The time is linear in its declarations.
+    /// Leaves the innermost scope. The file's scope is open all the same: where it is left, nothing
+    /// is declared in it any more. The time is linear in the declarations of the scope.
     pub fn leave(&mut self)
-        requires { IsInside self.old }
-        ensures { Leaves self.old self.new }
+        ensures { self.new ≡ left self.old }
     {
         while !self.undo() {}
     }
@@ -119,14 +119,13 @@ impl Scopes {
         }
     }
 
-    /// Takes the last step back. It is true where a scope began with it.
+    /// Takes the last step back. It is true where the innermost scope is left then.
     fn undo(&mut self) -> bool
-        requires { IsInside self.old }
-        ensures opens { OnTrue result (self.old ≡ entered self.new) }
+        ensures leaves { OnTrue result (self.new ≡ left self.old) }
         ensures declares { OnFalse result (Undeclares self.old self.new) }
     {
         match self.steps.pop() {
-            None => unreachable!(),
+            None => true,
             Some(Step::Opens) => true,
             Some(
                 Step::Declares {
