@@ -102,8 +102,10 @@ module _ {Token Scope Around Name : Type 0} {Value : Name → Type 0} {terminal_
       let w = (step whole level room (record { is = λ s. even }) (λ d. nested body d (suc level)) (nested_reader parse room) ih n).empty tt tt h scope in
       let m = body_to n level w.turns scope [] w.value w.is in record { value = w.value; turns = m.0; is = m.1 }
 
-  all_levels : (room level : ℕ) → level + room ≡ HIGHEST_LEVEL + 2 → Reads room level
-  all_levels zero level even n = record {
+  -- The rules in brackets, where there is so much room on their level: none where it is the second
+  -- that is too high.
+  pub read_nested_at : (room level : ℕ) → level + room ≡ HIGHEST_LEVEL + 2 → Reads room level
+  read_nested_at zero level even n = record {
     predictive = λ d h. (on (suc d) n level).predictive d (omega arith);
     keeps = λ d h. (on (suc d) n level).keeps d (omega arith);
     some = some n level;
@@ -111,20 +113,20 @@ module _ {Token Scope Around Name : Type 0} {Value : Name → Type 0} {terminal_
     ready = λ s g. absurd (omega arith);
     empty = λ s g. absurd (omega arith);
   }
-  all_levels (suc room) level even n = record {
+  read_nested_at (suc room) level even n = record {
     predictive = λ d h. (on (suc d) n level).predictive d (omega arith);
     keeps = λ d h. (on (suc d) n level).keeps d (omega arith);
     some = some n level;
-    exact = λ s g. exact_on room level (omega arith) (all_levels room (suc level) (omega arith)) n;
-    ready = λ s g. ready_on room level (omega arith) (all_levels room (suc level) (omega arith)) n;
-    empty = λ s g. empty_on room level (omega arith) (all_levels room (suc level) (omega arith)) n;
+    exact = λ s g. exact_on room level (omega arith) (read_nested_at room (suc level) (omega arith)) n;
+    ready = λ s g. ready_on room level (omega arith) (read_nested_at room (suc level) (omega arith)) n;
+    empty = λ s g. empty_on room level (omega arith) (read_nested_at room (suc level) (omega arith)) n;
   }
 
   -- On a level that is not too high, or the first that is, each of the rules is read exactly.
   pub read_nested : {given : Type 0} (level : ℕ) → level ≤ HIGHEST_LEVEL + 1 → (n : Name) →
       IsReadBy terminal_of IsLexeme whole given (λ d. nested body d level n) (nested_reader parse (suc (room_on level)) n) (null n) (first n) (last n)
   read_nested level h n =
-      let r = all_levels (suc (room_on level)) level (omega arith) n in record {
+      let r = read_nested_at (suc (room_on level)) level (omega arith) n in record {
         predictive = r.predictive;
         keeps = r.keeps;
         some = r.some;

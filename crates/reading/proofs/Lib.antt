@@ -10,6 +10,7 @@ pub mod ExactEither
 pub mod ReadBy
 pub mod ReadOne
 pub mod ReadThen
+pub mod ReadChanging
 pub mod ReadEither
 pub mod ReadSteps
 pub mod ReadTurns

@@ -1,4 +1,5 @@
--- Any number of steps is read exactly, each of which begins with a token of a set.
+-- Any number of steps is read exactly, each of which begins with a token of a set. What goes on behind a
+-- step may depend on its value.
 
 use Rattle.std.proofs.Common.{◌≡◌, inl, inr, ℕ, zero, suc, ◌<◌, ◌≤◌, Bool, true, false, if◌then◌else◌, List, [], ◌∷◌, ◌++◌, length, Ok, refl, sym, ap, subst, append-nil, length-append, arith}
 use Rattle.reading.specs.Terminals.{has, is_within, are_disjoint}
@@ -51,9 +52,9 @@ fewer_left ts left (s ∷ run) n e h k =
     let f : length ts ≡ suc (length (tokens_of run ++ left)) = ap length e in let g = length-append (tokens_of run) left in omega arith
 
 module _ {Token Scope Around : Type 0} {terminal_of : Scope → Token → ℕ} {IsLexeme : Token → Type 0} {stage : Stage} {given T : Type 0} where
-  module _ {step : ℕ → T → Rule Token Scope T} {q : T → Reader Token Scope Around T} {set : List ℕ} (last last' : List ℕ)
-      (rs : (s : T) → IsReadBy terminal_of IsLexeme stage given (λ d. step d s) (q s) no set (λ a. last))
-      (apart : are_disjoint last set ≡ true) (lasts : is_within last last' ≡ true) (goes : is_within set last' ≡ true) where
+  module _ {step : ℕ → T → Rule Token Scope T} {q : T → Reader Token Scope Around T} {set : List ℕ} (last last' : T → List ℕ)
+      (rs : (s : T) → IsReadBy terminal_of IsLexeme stage given (λ d. step d s) (q s) no set last)
+      (apart : (s : T) → are_disjoint (last s) set ≡ true) (lasts : (s : T) → is_within (last s) (last' s) ≡ true) (goes : (s : T) → is_within set (last' s) ≡ true) where
     abbrev Step : ℕ → T × Scope → Language Token (T × Scope)
     Step d z = step d z.0 z.1
 
@@ -61,22 +62,22 @@ module _ {Token Scope Around : Type 0} {terminal_of : Scope → Token → ℕ} {
     Goes z t = has set (terminal_of z.1 t)
 
     abbrev Lasts : T × Scope → Token → Bool
-    Lasts z t = has last (terminal_of z.1 t)
+    Lasts z t = has (last z.0) (terminal_of z.1 t)
 
     abbrev Follows : T × Scope → Token → Bool
-    Follows z t = has last' (terminal_of z.1 t)
+    Follows z t = has (last' z.0) (terminal_of z.1 t)
 
     abbrev Turned : ℕ → T × Scope → Language Token (T × Scope)
     Turned d z = either (sequence (Step d z) (steps d (Step d))) (empty_word z)
 
     all_predictive : (d : ℕ) → Covers stage d → (z : T × Scope) → IsPredictive (steps d (Step d) z) (steps (suc d) (Step (suc d)) z) true (Goes z) Follows
     all_predictive d h z = predictive_steps (Step d) (Step (suc d)) Goes Lasts Follows (λ r. (rs r.0).predictive d h r.1)
-        (λ r t. disjoint last set apart (terminal_of r.1 t)) (λ r t. within last last' lasts (terminal_of r.1 t)) (λ r t. within set last' goes (terminal_of r.1 t)) d z
+        (λ r t. disjoint (last r.0) set (apart r.0) (terminal_of r.1 t)) (λ r t. within (last r.0) (last' r.0) (lasts r.0) (terminal_of r.1 t)) (λ r t. within set (last' r.0) (goes r.0) (terminal_of r.1 t)) d z
 
     first_predictive : (d : ℕ) → Covers stage d → (z : T × Scope) →
         IsPredictive (sequence (Step d z) (steps d (Step d))) (sequence (Step (suc d) z) (steps (suc d) (Step (suc d)))) false (Goes z) Follows
     first_predictive d h z = predictive_step (Step d) (Step (suc d)) Goes Lasts Follows (λ r. (rs r.0).predictive d h r.1)
-        (λ r t. disjoint last set apart (terminal_of r.1 t)) (λ r t. within last last' lasts (terminal_of r.1 t)) (λ r t. within set last' goes (terminal_of r.1 t)) d z (all_predictive d h)
+        (λ r t. disjoint (last r.0) set (apart r.0) (terminal_of r.1 t)) (λ r t. within (last r.0) (last' r.0) (lasts r.0) (terminal_of r.1 t)) (λ r t. within set (last' r.0) (goes r.0) (terminal_of r.1 t)) d z (all_predictive d h)
 
     none_keeps : (d : ℕ) → Covers stage d → (z end : T × Scope) → steps d (Step d) z [] end → end ≡ z
     none_keeps d h z end x = no_steps (Step d) (λ r a y. never (((rs r.0).predictive d h r.1).nullable a y)) d z end x
@@ -132,7 +133,7 @@ module _ {Token Scope Around : Type 0} {terminal_of : Scope → Token → ℕ} {
           exact_left IsLexeme around (λ d. sequence (Step d z) (steps d (Step d))) (λ d. empty_word z) true (Goes z) (λ t. false) Follows (λ r t. false)
           (λ d. first_predictive d (all_at d) z) (λ d. predictive_empty z) (Goes z) (λ c y x. never y) t ts e (λ y. ready_more h g z t e) _
           (exact_then IsLexeme around (λ d. Step d z) (λ d. steps d (Step d)) false (Goes z) Lasts (λ r. true) Goes Follows
-          (λ d. (rs z.0).predictive d (all_at d) z.1) (λ d r. all_predictive d (all_at d) r) (λ r t. disjoint last set apart (terminal_of r.1 t))
+          (λ d. (rs z.0).predictive d (all_at d) z.1) (λ d r. all_predictive d (all_at d) r) (λ r t. disjoint (last r.0) set (apart r.0) (terminal_of r.1 t))
           (λ r. record { word = []; value = r; turns = 0; lexemes = tt; is = stops 0 (Step 0) r }) (go_on terminal_of set q n) (t ∷ ts)
           (q z.0 (At (t ∷ ts) z.1)) ((rs z.0).exact h g around z.1 (t ∷ ts))
           (λ run left d a f x sh. ih left a (fewer_left (t ∷ ts) left run n f (not_none h d z a run x) l)))
@@ -149,9 +150,9 @@ module _ {Token Scope Around : Type 0} {terminal_of : Scope → Token → ℕ} {
           exact_same (λ d. Turned d z) (λ d. steps d (Step d) z) (turned_to h z) (turned_from z) ts _
           (turn_exact n (λ left a l. all_exact n left a l) z ts (begins (Goes z) ts) refl k)
 
-    pub read_many : (s : T) → IsReadBy terminal_of IsLexeme stage given (λ d. many d (step d) s) (reader.many terminal_of set q s) keeping set (λ a. last')
+    pub read_many_by_value : (s : T) → IsReadBy terminal_of IsLexeme stage given (λ d. many d (step d) s) (reader.many terminal_of set q s) keeping set last'
     unfolding reader.many
-    read_many s = record {
+    read_many_by_value s = record {
       predictive = λ d h scope. all_predictive d h (s, scope);
       keeps = λ d h scope end x. ap (λ (z : T × Scope). z.1) (none_keeps d h (s, scope) end x);
       some = λ scope. record { word = []; value = (s, scope); turns = 0; lexemes = tt; is = λ e h. stops e (Step e) (s, scope) };
@@ -161,6 +162,13 @@ module _ {Token Scope Around : Type 0} {terminal_of : Scope → Token → ℕ} {
           record { word = w.word; value = w.value; turns = m.0; rest = w.rest; begins = w.begins; is = m.1 };
       empty = λ h g e scope. record { value = (s, scope); turns = 0; is = stops 0 (Step 0) (s, scope) };
     }
+
+  -- What goes on behind a step is the same for each value.
+  pub read_many : {step : ℕ → T → Rule Token Scope T} {q : T → Reader Token Scope Around T} {set : List ℕ} (last last' : List ℕ) →
+      ((s : T) → IsReadBy terminal_of IsLexeme stage given (λ d. step d s) (q s) no set (λ a. last)) →
+      are_disjoint last set ≡ true → is_within last last' ≡ true → is_within set last' ≡ true → (s : T) →
+      IsReadBy terminal_of IsLexeme stage given (λ d. many d (step d) s) (reader.many terminal_of set q s) keeping set (λ a. last')
+  read_many last last' rs apart lasts goes s = read_many_by_value (λ a. last) (λ a. last') rs (λ r. apart) (λ r. lasts) (λ r. goes) s
 
   -- Each step begins with a token of the set.
   module _ {A : Type 0} {set : List ℕ} (view : Token → A) {level room : ℕ} {f : ℕ → T → A → Rule Token Scope T} {p : T → A → Reader Token Scope Around T}
