@@ -1,4 +1,4 @@
-//! peer FILE .. | peer --shapes | peer --random COUNT: times and compares the tables of flow graphs.
+//! peer FILE .. | peer --shapes | peer --first SHAPE METHODS | peer --random COUNT: times and compares the tables of flow graphs.
 use std::env;
 use std::fs;
 use std::time::Instant;
@@ -250,6 +250,14 @@ fn main() {
     let args: Vec<String> = env::args().skip(1).collect();
     if args.first().is_some_and(|word| word == "--random") {
         return random(args[1].parse().expect("a count"));
+    }
+    if args.first().is_some_and(|word| word == "--first") {
+        let flow = shape(&args[1], args[2].parse().expect("a count"));
+        let mut marks = vec![0u8; flow.vertices as usize];
+        let start = Instant::now();
+        run(&flow, 20_000, &mut marks);
+        println!("{}", start.elapsed().as_secs_f64() * 1000.0);
+        return;
     }
     if args.first().is_some_and(|word| word == "--shapes") {
         println!("| Shape | 1,000 methods, ms | 16,000 methods, ms | Growth | Least | Least | Growth |\n|---|---|---|---|---|---|---|");

@@ -11,7 +11,7 @@ use Rattle.std.proofs.lemmas.List.Sorted.{Contains-permutation, IsPermutation-sy
 use Rattle.std.proofs.lemmas.Map.Made.{AllPairs-from_IsDistinct, IsDistinct-from_AllPairs}
 use Rattle.std.proofs.lemmas.Map.Keys.{IsDistinct-IsPermutation}
 use Rattle.matched_paths.specs.declared.flow_graph.Pair.{Pair}
-use Rattle.summary_core.specs.Board.{BoardState}
+use Rattle.matched_paths.specs.declared.flow_graph.FlowGraph.{FlowGraph}
 use Rattle.summary_core.specs.Sound.{EachOnce, HoldsWanted}
 use Rattle.summary_core.specs.Table.{IsClosed, Precedes, by_goal, by_out}
 
@@ -82,17 +82,17 @@ once_sorted : (pairs sorted : List Pair) → IsPermutation pairs sorted → Each
 once_sorted pairs sorted moved once =
     AllPairs-from_IsDistinct same_decides sorted (IsDistinct-IsPermutation same_pair same_flips pairs sorted moved (IsDistinct-from_AllPairs same_decides pairs once))
 
-pub closed_sorted : (board : BoardState) (sorted : List Pair) → All (λ start. start < board.flow.vertices) board.starts → HoldsWanted board.flow board.starts board.history → IsPermutation board.history sorted →
+pub closed_sorted : (flow : FlowGraph) (starts : List ℕ) (pairs sorted : List Pair) → All (λ start. start < flow.vertices) starts → HoldsWanted flow starts pairs → IsPermutation pairs sorted →
     ((k : ℕ) (d : Pair) → k + 1 < length sorted →
     is_lt (ordering_then (nat_cmp (get_or sorted (k + 1) d).goal (get_or sorted k d).goal) (nat_cmp (get_or sorted (k + 1) d).out (get_or sorted k d).out)) ≡ false) →
-    IsClosed (record { flow = board.flow; starts = board.starts; pairs = sorted })
-closed_sorted board sorted starts holds moved order =
-    let once = once_sorted board.history sorted moved holds.once in
+    IsClosed (record { flow = flow; starts = starts; pairs = sorted })
+closed_sorted flow starts pairs sorted within holds moved order =
+    let once = once_sorted pairs sorted moved holds.once in
     record {
-      starts = starts;
+      starts = within;
       exact = λ pair. (
-        λ has. (holds.exact pair).0 (Contains-permutation sorted board.history pair (IsPermutation-sym board.history sorted moved) has),
-        λ wanted. Contains-permutation board.history sorted pair moved ((holds.exact pair).1 wanted),
+        λ has. (holds.exact pair).0 (Contains-permutation sorted pairs pair (IsPermutation-sym pairs sorted moved) has),
+        λ wanted. Contains-permutation pairs sorted pair moved ((holds.exact pair).1 wanted),
       );
       rise = neighbours_rise sorted (λ k d inside. not_less _ _ (order k d inside) (once k (k + 1) d (omega arith) inside));
     }

@@ -3,7 +3,7 @@ use Rattle.std.proofs.Common.{◌≡◌, ℕ, ◌+◌, ◌<◌, ◌≤◌, inl, 
 use Rattle.std.specs.List.{All, Contains}
 use Rattle.std.specs.List.Sorted.{IsStrictlyIncreasing}
 use Rattle.std.proofs.lemmas.Bool.{cases_lt}
-use Rattle.std.proofs.lemmas.List.{get_or_default, get_or_append_left, map-append}
+use Rattle.std.proofs.lemmas.List.{get_or_default, get_or_append_left}
 use Rattle.std.proofs.Math.Seq.{get_or-append_seam}
 use Rattle.std.proofs.lemmas.List.Elements.{All-nil, All-push, All-append, All-weaker, All-contains, Contains-append_left, Contains-append_right, Contains-append_cases, Contains-get_or}
 use Rattle.matched_paths.specs.declared.flow_graph.Crossing.{Crossing}
@@ -17,8 +17,7 @@ use Rattle.matched_paths.specs.Edges.{Crosses}
 use Rattle.flow_index.specs.Vertices.{Meets, Vertices}
 use Rattle.flow_index.specs.Ways.{AreAmong, IsReached}
 use Rattle.flow_index.proofs.Growing.{grows_keeps}
-use Rattle.summary_core.specs.declared.task.Task.{Task}
-use Rattle.summary_core.specs.Board.{AreWanted, goals_of, IsUntouched}
+use Rattle.summary_core.specs.Board.{AreWanted}
 
 -- The goals of the first opens were met.
 pub record MeetsGoals (flow : FlowGraph) (set : Vertices) (index : ℕ) : Type 0 where
@@ -93,19 +92,17 @@ met_is flow starts ways are vertex = (
   λ met. record { start = met.start; among = met.among; leads = path_map (λ a b edge. (are a b).1 edge) met.leads },
 )
 
--- The tasks are those of the wanted goals below the vertex.
-pub record TakesUp (flow : FlowGraph) (starts : List ℕ) (tasks : List Task) (vertex : ℕ) : Type 0 where
-  pub rise : IsStrictlyIncreasing (goals_of tasks)
-  pub sound : All (λ goal. (goal < vertex) × IsWanted flow starts goal) (goals_of tasks)
-  pub all : (goal : ℕ) → goal < vertex → IsWanted flow starts goal → Contains (goals_of tasks) goal
-  pub untouched : All IsUntouched tasks
+-- The goals are the wanted ones below the vertex.
+pub record TakesUp (flow : FlowGraph) (starts goals : List ℕ) (vertex : ℕ) : Type 0 where
+  pub rise : IsStrictlyIncreasing goals
+  pub sound : All (λ goal. (goal < vertex) × IsWanted flow starts goal) goals
+  pub all : (goal : ℕ) → goal < vertex → IsWanted flow starts goal → Contains goals goal
 
-pub tasks_none : (flow : FlowGraph) (starts : List ℕ) (tasks : List Task) → tasks ≡ [] → TakesUp flow starts tasks 0
-tasks_none flow starts tasks empty = rw empty (record {
+pub wanted_none : (flow : FlowGraph) (starts goals : List ℕ) → goals ≡ [] → TakesUp flow starts goals 0
+wanted_none flow starts goals empty = rw empty (record {
   rise = λ k within. absurd (omega arith);
   sound = λ k d within. absurd (omega arith);
   all = λ goal less wanted. absurd (omega arith);
-  untouched = λ k d within. absurd (omega arith);
 })
 
 -- a number above all stands behind a rising list
@@ -123,39 +120,42 @@ rise_more xs x rise below k within =
           rw (last, get_or_append_left xs (x ∷ []) 0 k first) (below k 0 first)
     ]
 
-pub tasks_one : (flow : FlowGraph) (starts : List ℕ) (tasks : List Task) (vertex : ℕ) (task : Task) → task.goal ≡ vertex → IsUntouched task → IsWanted flow starts vertex → TakesUp flow starts tasks vertex → TakesUp flow starts (tasks ++ task ∷ []) (vertex + 1)
-tasks_one flow starts tasks vertex task of_goal untouched wanted is =
-    let goals : goals_of (tasks ++ task ∷ []) ≡ goals_of tasks ++ vertex ∷ [] = map-append (λ (t : Task). t.goal) tasks (task ∷ []) ∙ ap (λ (g : ℕ). goals_of tasks ++ g ∷ []) of_goal in
-    record {
-      rise = subst IsStrictlyIncreasing (sym goals) (rise_more (goals_of tasks) vertex is.rise (All-weaker (λ (g : ℕ). (g < vertex) × IsWanted flow starts g) (λ g. g < vertex) (λ g so. so.0) (goals_of tasks) is.sound));
-      sound = subst (λ (gs : List ℕ). All (λ goal. (goal < vertex + 1) × IsWanted flow starts goal) gs) (sym goals)
-          (All-push (λ (g : ℕ). (g < vertex + 1) × IsWanted flow starts g) (goals_of tasks) vertex (All-weaker (λ (g : ℕ). (g < vertex) × IsWanted flow starts g) (λ (g : ℕ). (g < vertex + 1) × IsWanted flow starts g) (λ g so. (omega (arith, so.0), so.1)) (goals_of tasks) is.sound) (omega arith, wanted));
-      all = λ goal less is_wanted. subst (λ (gs : List ℕ). Contains gs goal) (sym goals) (elim (cases_lt goal vertex) [
-        | inl before ↦ Contains-append_left (goals_of tasks) (vertex ∷ []) goal (is.all goal before is_wanted)
-        | inr not_before ↦
-            let here : vertex ≡ goal = omega arith in
-            Contains-append_right (goals_of tasks) (vertex ∷ []) goal (0, omega arith, here)
-      ]);
-      untouched = All-push IsUntouched tasks task is.untouched untouched;
-    }
+abbrev Below : FlowGraph → List ℕ → ℕ → ℕ → Type 0
+Below flow starts vertex goal = (goal < vertex) × IsWanted flow starts goal
 
-pub tasks_skip : (flow : FlowGraph) (starts : List ℕ) (tasks : List Task) (vertex : ℕ) → ¬ IsWanted flow starts vertex → TakesUp flow starts tasks vertex → TakesUp flow starts tasks (vertex + 1)
-tasks_skip flow starts tasks vertex unwanted is = record {
+-- what is below a vertex is below the next one
+below_next : (flow : FlowGraph) (starts goals : List ℕ) (vertex : ℕ) → All (Below flow starts vertex) goals → All (Below flow starts (vertex + 1)) goals
+below_next flow starts goals vertex =
+    All-weaker (Below flow starts vertex) (Below flow starts (vertex + 1)) (λ g so. (omega (arith, so.0), so.1)) goals
+
+pub wanted_one : (flow : FlowGraph) (starts goals : List ℕ) (vertex : ℕ) → IsWanted flow starts vertex → TakesUp flow starts goals vertex → TakesUp flow starts (goals ++ vertex ∷ []) (vertex + 1)
+wanted_one flow starts goals vertex wanted is = record {
+  rise = rise_more goals vertex is.rise (All-weaker (Below flow starts vertex) (λ g. g < vertex) (λ g so. so.0) goals is.sound);
+  sound = All-push (Below flow starts (vertex + 1)) goals vertex (below_next flow starts goals vertex is.sound) (omega arith, wanted);
+  all = λ goal less is_wanted. elim (cases_lt goal vertex) [
+    | inl before ↦ Contains-append_left goals (vertex ∷ []) goal (is.all goal before is_wanted)
+    | inr not_before ↦
+        let here : vertex ≡ goal = omega arith in
+        Contains-append_right goals (vertex ∷ []) goal (0, omega arith, here)
+  ];
+}
+
+pub wanted_skip : (flow : FlowGraph) (starts goals : List ℕ) (vertex : ℕ) → ¬ IsWanted flow starts vertex → TakesUp flow starts goals vertex → TakesUp flow starts goals (vertex + 1)
+wanted_skip flow starts goals vertex unwanted is = record {
   rise = is.rise;
-  sound = All-weaker (λ (g : ℕ). (g < vertex) × IsWanted flow starts g) (λ (g : ℕ). (g < vertex + 1) × IsWanted flow starts g) (λ g so. (omega (arith, so.0), so.1)) (goals_of tasks) is.sound;
+  sound = below_next flow starts goals vertex is.sound;
   all = λ goal less wanted. elim (cases_lt goal vertex) [
     | inl before ↦ is.all goal before wanted
     | inr not_before ↦
         let here : goal ≡ vertex = omega arith in
         absurd (unwanted (subst (λ (g : ℕ). IsWanted flow starts g) here wanted))
   ];
-  untouched = is.untouched;
 }
 
-pub tasks_end : (flow : FlowGraph) (starts : List ℕ) (tasks : List Task) (vertex : ℕ) → flow.vertices ≤ vertex → TakesUp flow starts tasks vertex → AreWanted flow starts (goals_of tasks)
-tasks_end flow starts tasks vertex all is = record {
+pub wanted_end : (flow : FlowGraph) (starts goals : List ℕ) (vertex : ℕ) → flow.vertices ≤ vertex → TakesUp flow starts goals vertex → AreWanted flow starts goals
+wanted_end flow starts goals vertex all is = record {
   each = λ goal. (
-    λ has. (All-contains (λ (g : ℕ). (g < vertex) × IsWanted flow starts g) (goals_of tasks) goal is.sound has).1,
+    λ has. (All-contains (Below flow starts vertex) goals goal is.sound has).1,
     λ wanted.
         let below = (All-contains (IsAmong flow.vertices) flow.opens _ flow.within.opens wanted.goal.1.1).to in
         is.all goal (omega arith) wanted,

@@ -11,16 +11,15 @@ ghost use Rattle.summary_core.specs.Events.{Flies, NoneFlies};
 ghost use Rattle.summary_core.specs.Table.{IsClosed};
 
 use crate::agenda::{Agenda, Asker};
-use crate::claims::{add_pairs, goals_among, position_of};
+use crate::claims::{add_pairs, position_of};
 use crate::closed::Closed;
 use crate::found::{Found, Goal};
 use crate::known::Known;
 use crate::mirror::Mirror;
-use crate::task::{Stamp, Task};
-use crate::wanted::wanted_tasks;
+use crate::task::{Stamp, Task, tasks_of};
+use crate::wanted::wanted_goals;
 use joern_io::List as ListOf;
 use matched_paths::{FlowGraph, Pair};
-use path_facts::true_pairs;
 use std::alloc::{AllocError, Global};
 use std::marker::Model;
 use std::sync::Arc;
@@ -77,7 +76,8 @@ impl Board {
         requires { All (λ start. start < flow.value.vertices) starts }
         ensures { IfOk result (IsOpening flow.value starts) }
     {
-        let tasks = wanted_tasks(alloc, &flow, starts.items())?;
+        let goals = wanted_goals(alloc, &flow, starts.items())?;
+        let tasks = tasks_of(alloc, &goals)?;
         let agenda = Agenda::new(alloc, tasks.len())?;
         Ok(Board {
             flow,
@@ -175,7 +175,7 @@ impl Board {
         self.tasks[position].flies = false;
     }
 
-    /// The closed table: what the wanted goals lead to, by a work list of facts from the goals.
+    /// The closed table of the flow graph and the starts. It is made anew, and not of the history.
     pub fn finish(self, alloc: Global) -> Result<Closed, AllocError>
         requires { NoneFlies self }
         ensures flow { IfOk result (λ closed. closed.flow ≡ self.flow) }
@@ -187,16 +187,10 @@ impl Board {
             starts,
             history: _,
             known: _,
-            tasks,
+            tasks: _,
             agenda: _,
         } = self;
-        let goals = goals_among(alloc, &tasks)?;
-        let mut pairs = true_pairs(alloc, &flow, &goals)?;
-        pairs.sort_unstable();
-        Ok(Closed {
-            flow,
-            starts,
-            pairs: ListOf::of(pairs),
-        })
+        let closed = Closed::of(alloc, flow, starts)?;
+        Ok(closed)
     }
 }

@@ -13,13 +13,6 @@ use crate::task::Task;
 use matched_paths::Pair;
 use std::alloc::{AllocError, Global};
 
-/// The goals of the tasks.
-pub(crate) fn goals_among(alloc: Global, tasks: &[Task]) -> Result<Vec<u32>, AllocError>
-    ensures { IfOk result (λ goals. goals.items ≡ goals_of tasks.now) }
-{
-    tasks.iter().map(|task| task.goal).collect(alloc)
-}
-
 /// Where the task of the goal stands.
 pub(crate) fn position_of(tasks: &[Task], goal: u32) -> Option<usize>
     requires { IsStrictlyIncreasing (goals_of tasks.now) }

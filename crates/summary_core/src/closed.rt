@@ -1,11 +1,14 @@
 //! The closed table of summaries.
 
-ghost use Rattle.std.specs.Prelude.{◌≡◌};
+ghost use Rattle.std.specs.Prelude.{◌≡◌, ◌<◌, IfOk};
 ghost use Rattle.std.specs.List.{All, Contains};
 ghost use Rattle.summary_core.specs.Table.{IsClosed};
 
+use crate::wanted::wanted_goals;
 use joern_io::List;
 use matched_paths::{FlowGraph, Pair};
+use path_facts::true_pairs;
+use std::alloc::{AllocError, Global};
 use std::marker::Model;
 use std::sync::Arc;
 
@@ -38,6 +41,24 @@ impl Model for Closed {
 }
 
 impl Closed {
+    /// The table closed for the starts: what their wanted goals lead to, by a work list of facts
+    /// from the goals.
+    pub fn of(alloc: Global, flow: Arc<FlowGraph>, starts: List<u32>) -> Result<Closed, AllocError>
+        requires { All (λ start. start < flow.value.vertices) starts }
+        ensures flow { IfOk result (λ closed. closed.flow ≡ flow.value) }
+        ensures starts { IfOk result (λ closed. closed.starts ≡ starts) }
+        ensures closed { IfOk result IsClosed }
+    {
+        let goals = wanted_goals(alloc, &flow, starts.items())?;
+        let mut pairs = true_pairs(alloc, &flow, &goals)?;
+        pairs.sort_unstable();
+        Ok(Closed {
+            flow,
+            starts,
+            pairs: List::of(pairs),
+        })
+    }
+
     /// The true pairs whose goal is wanted, rising by goal and then by out.
     pub fn pairs(&self) -> &[Pair]
         ensures pairs { result.now ≡ self.now.pairs }

@@ -5,9 +5,8 @@ ghost use Rattle.std.specs.List.{All, Contains};
 ghost use Rattle.matched_paths.specs.Edges.{IsGoal};
 ghost use Rattle.matched_paths.specs.Wanted.{HasEdge, IsMet};
 ghost use Rattle.flow_index.specs.Ways.{AreAmong};
-ghost use Rattle.summary_core.specs.Board.{goals_of, AreWanted, IsUntouched};
+ghost use Rattle.summary_core.specs.Board.{AreWanted};
 
-use crate::task::Task;
 use flow_index::{VertexSet, reached, ways_of};
 use matched_paths::FlowGraph;
 use std::alloc::{AllocError, Global};
@@ -55,23 +54,22 @@ fn in_both(goals: &VertexSet, met: &VertexSet, vertex: u32) -> bool
     goals.has(vertex) && met.has(vertex)
 }
 
-/// A task for each wanted goal, rising; none was touched yet.
-pub(crate) fn wanted_tasks(
+/// The wanted goals, rising.
+pub(crate) fn wanted_goals(
     alloc: Global,
     flow: &FlowGraph,
     starts: &[u32],
-) -> Result<Vec<Task>, AllocError>
+) -> Result<Vec<u32>, AllocError>
     requires { All (λ start. start < flow.now.vertices) starts.now }
-    ensures goals { IfOk result (λ tasks. AreWanted flow.now starts.now (goals_of tasks.items)) }
-    ensures untouched { IfOk result (λ tasks. All IsUntouched tasks.items) }
+    ensures { IfOk result (λ goals. AreWanted flow.now starts.now goals.items) }
 {
     let goals = goals(alloc, flow)?;
     let met = met(alloc, flow, starts)?;
-    let mut tasks = Vec::new(alloc);
+    let mut wanted = Vec::new(alloc);
     for vertex in 0..flow.vertices {
         if in_both(&goals, &met, vertex) {
-            tasks.push(Task::new(vertex))?;
+            wanted.push(vertex)?;
         }
     }
-    Ok(tasks)
+    Ok(wanted)
 }

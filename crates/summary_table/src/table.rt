@@ -8,7 +8,7 @@ use joern_io::List;
 use matched_paths::FlowGraph;
 use std::alloc::{AllocError, Global};
 use std::sync::Arc;
-use summary_core::{Board, Closed};
+use summary_core::Closed;
 
 /// Whether all starts are vertices, as a table asks. It takes no memory.
 pub fn may_be_closed(flow: &FlowGraph, starts: &[u32]) -> bool
@@ -28,7 +28,6 @@ pub fn table_one(
     ensures starts { IfOk result (λ closed. closed.starts ≡ starts) }
     ensures closed { IfOk result IsClosed }
 {
-    let board = Board::new(alloc, flow, starts)?;
-    let closed = board.finish(alloc)?;
+    let closed = Closed::of(alloc, flow, starts)?;
     Ok(closed)
 }
