@@ -13,3 +13,4 @@ mod suffix;
 mod type_name;
 
 pub use entry::read_expr;
+pub use forms::AssignForm;
