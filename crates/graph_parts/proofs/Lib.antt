@@ -1,0 +1,9 @@
+pub mod Least
+pub mod KindRank
+pub mod Lent
+pub mod Found
+pub mod Tree
+pub mod Depth
+pub mod AboveList
+pub mod Climbs
+pub mod Walks
