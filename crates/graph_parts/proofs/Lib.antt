@@ -1,4 +1,5 @@
 pub mod Least
+pub mod Asked
 pub mod KindRank
 pub mod Lent
 pub mod Found

@@ -4,4 +4,3 @@ pub mod Standing
 pub mod NodesAbove
 pub mod Places
 pub mod Walking
-pub mod TestedShape

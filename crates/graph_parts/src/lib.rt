@@ -8,8 +8,6 @@ mod children;
 pub mod laws;
 mod node_test;
 mod places;
-#[cfg(test)]
-mod tests;
 mod walk;
 
 pub use above::{file_of, nearest_above, parent_of, root_of};
