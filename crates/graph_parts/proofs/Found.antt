@@ -7,7 +7,7 @@ use Rattle.edge_index.specs.Indexed.{Indexed, IsIndexOf, out_edges}
 use Rattle.edge_index.proofs.Counting.{no_edge}
 use Rattle.graph_parts.specs.Finds.{IsLeast}
 use Rattle.graph_parts.specs.Parts.{HasEdge}
-use Rattle.graph_parts.proofs.Lent.{out_all, out_rises}
+use Rattle.graph_parts.proofs.Lent.{Lends, out_all, out_rises}
 
 -- None of the first edges leads to a node with the property.
 pub record NoneLeads (P : ℕ → Type 0) (edges : List Edge) (count : ℕ) : Type 0 where
@@ -29,20 +29,16 @@ none_next P edges count h not = record { none = λ k d low. by k d low (nat_lt k
 module _ (graph : StoredGraph) (index : Indexed) (h : IsIndexOf graph index) (id : ℕ) (kind : EdgeKind) (P : ℕ → Type 0) (leads : (n : ℕ) → P n → HasEdge (plain graph) kind id n) where
   pub first_least : (i : ℕ) (d : Edge) → i < length (out_edges index id kind) → NoneLeads P (out_edges index id kind) i → P (get_or (out_edges index id kind) i d).to →
       IsLeast P (get_or (out_edges index id kind) i d).to
-  first_least i d low none has = record { is = has; least = λ other is. least other is (nat_lt (lends other is) i) refl }
+  first_least i d low none has = record { is = has; least = λ other is. least other is (out_all graph index h id kind other (leads other is)) }
     where
-      lends : (other : ℕ) → P other → ℕ
-      lends other is = (out_all graph index h id kind other (leads other is)).position
-
-      least : (other : ℕ) (is : P other) (t : Bool) → nat_lt (lends other is) i ≡ t → (get_or (out_edges index id kind) i d).to ≤ other
-      unfolding lends
-      least other is true t =
-          let found = out_all graph index h id kind other (leads other is) in
-          absurd (none.none found.position d (ltb-true found.position i t) (subst P (sym (found.far_is d)) is))
-      least other is false t =
-          let found = out_all graph index h id kind other (leads other is) in
-          let rises = out_rises graph index h id kind i found.position d (ltb-false found.position i t) found.inside in
-          subst (λ (n : ℕ). (get_or (out_edges index id kind) i d).to ≤ n) (found.far_is d) rises
+      least : (other : ℕ) → P other → Lends (out_edges index id kind) (λ (e : Edge). e.to) other → (get_or (out_edges index id kind) i d).to ≤ other
+      least other is found = by (nat_lt found.position i) refl
+        where
+          by : (t : Bool) → nat_lt found.position i ≡ t → (get_or (out_edges index id kind) i d).to ≤ other
+          by true t = absurd (none.none found.position d (ltb-true found.position i t) (subst P (sym (found.far_is d)) is))
+          by false t =
+              subst (λ (n : ℕ). (get_or (out_edges index id kind) i d).to ≤ n) (found.far_is d)
+              (out_rises graph index h id kind i found.position d (ltb-false found.position i t) found.inside)
 
   pub none_least : NoneLeads P (out_edges index id kind) (length (out_edges index id kind)) → (n : ℕ) → ¬ IsLeast P n
   none_least none n least =

@@ -175,7 +175,12 @@ module _ (graph : StoredGraph) (index : Indexed) (h : IsIndexOf graph index) (id
       let ascends = ascends_from_sorted edge_cmp_total (map show edges) sorted i j (show d) lt (rw (length-map edges show) low) in
       let at_i = leads graph index h id kind i d (omega arith) in
       let at_j = leads graph index h id kind j d low in
-      let not_less : is_lt (edge_cmp (show (get_or edges j d)) (show (get_or edges i d))) ≡ false = rw (← get_or-map show edges j d, ← get_or-map show edges i d) ascends in
+      let low_i : i < length edges = omega arith in
+      let shown_i = get_or-map show edges i d (show d) low_i in
+      let shown_j = get_or-map show edges j d (show d) low in
+      let not_less =
+      subst (λ (e : PlainEdge). is_lt (edge_cmp e (show (get_or edges i d))) ≡ false) shown_j
+      (subst (λ (e : PlainEdge). is_lt (edge_cmp (get_or (map show edges) j (show d)) e) ≡ false) shown_i ascends) in
       ends_rise (show (get_or edges i d)) (show (get_or edges j d)) (at_i.0 ∙ sym at_j.0) (at_i.1 ∙ sym at_j.1) not_less
 
   pub out_rises : IsNonDecreasingBy (λ (e : Edge). e.to) (out_edges index id kind)

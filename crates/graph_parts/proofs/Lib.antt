@@ -1,8 +1,8 @@
 pub mod Least
-pub mod Asked
 pub mod KindRank
 pub mod Lent
 pub mod Found
+pub mod Parents
 pub mod Tree
 pub mod Depth
 pub mod AboveList

@@ -39,6 +39,7 @@ pub fn nearest_above(graph: &Graph, index: &Index, node: u32, label: Label) -> O
     ensures above { Finds (IsNearestAbove (plain graph.now) label node) result }
     ensures within { IfSome result (λ above. above < length graph.now.nodes) }
 {
+    law_stored(graph);
     let mut below = node;
     while let Some(above) = parent_of(graph, index, below) {
         if has_label(graph, above, label) {
@@ -57,6 +58,7 @@ pub fn root_of(graph: &Graph, index: &Index, node: u32) -> u32
     ensures root { IsRootOf (plain graph.now) node result }
     ensures within { result < length graph.now.nodes }
 {
+    law_stored(graph);
     let mut root = node;
     while let Some(above) = parent_of(graph, index, root) {
         root = above;
