@@ -54,7 +54,7 @@ missing (edge ∷ edges) node is position parent at = by ((kind_rank edge.kind =
         let later : IsAstEdgeAt edges position parent node = record { edge = at.edge; edge_is = at.edge_is; kind = at.kind; from = at.from; to = at.to } in
         rest is position parent later
 
-none_distinct : IsDistinct eqb []
+pub none_distinct : IsDistinct eqb []
 unfolding IsDistinct
 none_distinct = tt
 

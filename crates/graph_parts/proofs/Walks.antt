@@ -1,9 +1,11 @@
 -- A walk that comes to one node more, and one that has come to all.
-use Rattle.std.proofs.Common.{◌≡◌, ℕ, zero, suc, ◌+◌, ◌<◌, ◌≤◌, ◌==◌, Bool, true, false, if◌then◌else◌, List, [], ◌∷◌, ◌++◌, Option, Some, None, ◌⊎◌, inl, inr, length, get_or, slice_index, slice_set, refl, ap, sym, subst, ◌∙◌, arith, eqb, eqb-true, eq-eqb, append-nil, append_assoc}
+use Rattle.std.proofs.Common.{◌≡◌, ℕ, zero, suc, ◌+◌, ◌<◌, ◌≤◌, ◌==◌, Bool, true, false, if◌then◌else◌, List, [], ◌∷◌, ◌++◌, Option, Some, None, ◌⊎◌, inl, inr, length, get_or, slice_get, slice_index, slice_set, refl, ap, sym, subst, ◌∙◌, arith, eqb, eqb-true, eq-eqb, append-nil, append_assoc, map, replicate}
 use Rattle.std.specs.List.{Contains, IsDistinct, list_any}
 use Rattle.std.proofs.lemmas.Cmp.{nat_eq_equiv}
 use Rattle.std.proofs.lemmas.Bool.{eqb-false}
-use Rattle.std.proofs.lemmas.List.{length-set, get_or-set_same, get_or-set_other, get_or_append_left, get_or_default, length-append}
+use Rattle.std.specs.Prelude.{option_map}
+use Rattle.std.proofs.lemmas.List.{length-map, length-set, length-replicate, get_or-replicate, get_or-set_same, get_or-set_other, get_or_append_left, get_or_default, length-append}
+use Rattle.std.proofs.lemmas.Option.{slice_get-map, slice_get-get_or, slice_get_within, get_or_from_slice_get}
 use Rattle.std.proofs.lemmas.List.Elements.{Contains-append_left, Contains-push, Contains-push_cases}
 use Rattle.std.proofs.lemmas.Map.Keys.{IsDistinct-push}
 use Rattle.std.proofs.lemmas.Map.Steps.{length-le_from_distinct_below}
@@ -20,9 +22,10 @@ use Rattle.graph_parts.specs.declared.walk.Walk.{Walk}
 use Rattle.graph_parts.specs.Finds.{Finds}
 use Rattle.graph_parts.specs.Parts.{IsChild, IsNodeWith, HasLabel}
 use Rattle.graph_parts.specs.Standing.{IsMethodAbove, IsRootOf}
+use Rattle.graph_parts.specs.Places.{Placed, ArePlacesOf}
 use Rattle.graph_parts.specs.Walking.{node_or_none, IsPlace, IsPlaced, IsWalk, GoesOn, HasRoots, HasChildren, HasAll}
 use Rattle.graph_parts.proofs.Tree.{above_in, nearest_down, nearest_up, nearest_here, none_above}
-use Rattle.graph_parts.proofs.Depth.{depth, depth_falls, ends_of, parent_of as parent_found, Parent, one, none}
+use Rattle.graph_parts.proofs.Depth.{depth, depth_falls, ends_of, none_distinct, parent_of as parent_found, Parent, one, none}
 
 -- The walk has come to this node too, which stands here.
 pub record Comes (old new : Walk) (node method root : ℕ) : Type 0 where
@@ -255,3 +258,65 @@ placing_next graph old middle new node method root edges count h w on here = rec
     by : (k : ℕ) (d : Edge) → k < count + 1 → (t : Bool) → eqb k count ≡ t → IsPlaced new (get_or edges k d).to
     by k d low true t = subst (λ (i : ℕ). IsPlaced new (get_or edges i d).to) (sym (eqb-true k count t)) (here d)
     by k d low false t = let differs = eqb-false k count t in on.keeps (get_or edges k d).to (h.each k d (omega arith))
+
+-- A walk at its beginning has come to no node.
+pub new_walk : (graph : PlainGraph) (walk : Walk) (count : ℕ) → walk.methods.items ≡ replicate count NO_NODE → walk.roots.items ≡ replicate count NO_NODE → walk.order.items ≡ [] →
+    length graph.nodes ≡ count → IsWalk graph walk
+new_walk graph walk count methods roots order is = record {
+  method_count = ap length methods ∙ (length-replicate count NO_NODE ∙ sym is);
+  root_count = ap length roots ∙ (length-replicate count NO_NODE ∙ sym is);
+  distinct = subst (IsDistinct eqb) (sym order) none_distinct;
+  within = λ node there. absurd (nowhere node there);
+  ordered = λ node low placed. absurd (placed.has_root (root node low));
+  placed = λ node there. absurd (nowhere node there);
+  known = λ node there. absurd (nowhere node there);
+}
+  where
+    nowhere : (node : ℕ) → ¬ Contains walk.order.items node
+    nowhere node there = let low = there.1 in let empty = ap length order in omega arith
+
+    root : (node : ℕ) → node < length graph.nodes → slice_index walk.roots.items node ≡ NO_NODE
+    root node low = ap (λ (xs : List ℕ). slice_index xs node) roots ∙ get_or-replicate count node NO_NODE 0 (omega arith)
+
+-- What a walk that has come to a node knows of it and of its children.
+module _ (graph : PlainGraph) (shaped : IsShaped graph) (walk : Walk) (w : IsWalk graph walk) (node : ℕ) (come : Contains walk.order.items node) where
+  pub real_root : (root : ℕ) → root ≡ slice_index walk.roots.items node → ¬ (root ≡ NO_NODE)
+  real_root root is unknown = (w.placed node come).has_root (sym is ∙ unknown)
+
+  pub under_method : (root : ℕ) → root ≡ slice_index walk.roots.items node → IsNodeWith graph (HasLabel Method) node → ¬ (node ≡ NO_NODE) →
+      (child : ℕ) → IsChild graph node child → IsPlace graph child node root
+  under_method root is has real child h =
+      subst (IsPlace graph child node) (sym is)
+      (child_of_method graph shaped node child (slice_index walk.methods.items node) (slice_index walk.roots.items node) h (w.known node come) has real)
+
+  pub under_other : (method root : ℕ) → method ≡ slice_index walk.methods.items node → root ≡ slice_index walk.roots.items node → ¬ IsNodeWith graph (HasLabel Method) node →
+      (child : ℕ) → IsChild graph node child → IsPlace graph child method root
+  under_other method root method_is root_is lacks child h =
+      subst (IsPlace graph child method) (sym root_is)
+      (subst (λ (m : ℕ). IsPlace graph child m (slice_index walk.roots.items node)) (sym method_is)
+      (child_of_other graph shaped node child (slice_index walk.methods.items node) (slice_index walk.roots.items node) h (w.known node come) lacks))
+
+-- What a walk that has come to all nodes knows.
+pub places_are : (graph : PlainGraph) (walk : Walk) → IsWalk graph walk → HasAll graph walk →
+    ArePlacesOf graph (record { methods = map node_or_none walk.methods.items; roots = walk.roots.items })
+places_are graph walk w all = record {
+  method_count = length-map walk.methods.items node_or_none ∙ w.method_count;
+  root_count = w.root_count;
+  methods = λ node method is. method_at node method (slice_get walk.methods.items node) refl (sym (slice_get-map node_or_none walk.methods.items node) ∙ is);
+  roots = λ node root is.
+      let within = slice_get_within walk.roots.items node root is in
+      let count = w.root_count in
+      subst (IsRootOf graph node) (get_or_from_slice_get walk.roots.items node root 0 is) (known node (omega arith)).root_is;
+}
+  where
+    known : (node : ℕ) → node < length graph.nodes → IsPlace graph node (slice_index walk.methods.items node) (slice_index walk.roots.items node)
+    known node low = w.known node (w.ordered node low (all.each node low))
+
+    method_at : (node : ℕ) (method : Option ℕ) (found : Option ℕ) → slice_get walk.methods.items node ≡ found → option_map node_or_none found ≡ Some method → Finds (IsMethodAbove graph node) method
+    method_at node method None at is = cc
+    method_at node method (Some number) at is =
+        let within = slice_get_within walk.methods.items node number at in
+        let count = w.method_count in
+        let shown : node_or_none number ≡ method = cc in
+        let here : slice_index walk.methods.items node ≡ number = get_or_from_slice_get walk.methods.items node number 0 at in
+        subst (Finds (IsMethodAbove graph node)) (ap node_or_none here ∙ shown) (known node (omega arith)).method_is
