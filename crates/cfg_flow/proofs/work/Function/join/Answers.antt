@@ -1,0 +1,18 @@
+use Rattle.std.proofs.Common.{◌≡◌, ◌∙◌, List, Option, Some, ℕ, refl, sym, subst, ap, length, slice_get, slice_range}
+use Rattle.cfg_flow.specs.declared.plan.Row.{Row}
+use Rattle.cfg_flow.specs.Plans.{HasParts, constructs}
+use Rattle.cfg_flow.proofs.Joining.{joined_more, ready_from, site_is}
+use Rattle.cfg_flow.proofs.work.Function.join.Goals as goal
+
+pub returns-clause-joined : goal.returns-clause-joined
+returns-clause-joined c = λ plan flat read from.
+    let taken = c.in_ok-jumps.ensures plan from.ahead in
+    let row = c.row-row.result in
+    let row_is : slice_get plan.rows.items c.args.x ≡ Some row = subst (λ (rows : List Row). slice_get rows c.args.x ≡ Some row) read.rows c.row-row.ensures in
+    let listed : HasParts row (length c.args.self.now.parts.now) = subst (λ (parts : List (Option ℕ)). HasParts row (length parts)) (sym read.parts) (flat.listed c.args.x row row_is) in
+    let parts : slice_range plan.parts.items row.from row.to ≡ c.parts_of.result.now = sym (c.parts_of.ensures listed ∙ ap (λ (parts : List (Option ℕ)). slice_range parts row.from row.to) read.parts) in
+    let room : length c.args.work.now.table.items ≡ length plan.rows.items = c.requires.room ∙ ap (λ (rows : List Row). length rows) read.rows in
+    let ready = ready_from plan c.args.x c.args.work.now.table.items flat room from.table in
+    let site = site_is plan row _ c.in_ok-jumps.jumps _ row_is refl parts (sym read.end) taken in
+    let joined = c.in_ok-next.ensures (constructs plan) flat.plan_is site ? in
+    ?

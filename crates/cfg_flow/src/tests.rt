@@ -1,0 +1,261 @@
+//! Small functions, edge by edge. Constructs have the numbers of their nodes in a whole graph; what
+//! is not walked is passed, and part of nothing.
+
+use crate::{Jump, Plan, Row, flow};
+use cfg_rules::Rule;
+use std::alloc::{AllocError, Global};
+use std::test::Fail;
+
+/// A rule with its parts.
+type Drawn<'a> = (Rule, &'a [Option<u32>]);
+
+/// From the number of a construct to a mark.
+type Arrow = (u32, u32);
+
+/// A plan as it is written by hand.
+#[derive(Clone, Copy)]
+struct Sketch<'a> {
+    rows: &'a [Drawn<'a>],
+    end: u32,
+    targets: &'a [Arrow],
+    breaks: &'a [Arrow],
+    continues: &'a [Arrow],
+}
+
+fn jumps(alloc: Global, arrows: &[Arrow]) -> Result<Vec<Jump>, AllocError> {
+    let mut jumps = Vec::new(alloc);
+    for (construct, mark) in arrows {
+        jumps.push(Jump {
+            construct: *construct,
+            mark: *mark,
+        })?;
+    }
+    Ok(jumps)
+}
+
+fn plan(alloc: Global, sketch: &Sketch<'_>) -> Result<Plan, Fail> {
+    let mut rows = Vec::new(alloc);
+    let mut parts = Vec::new(alloc);
+    for (rule, own) in sketch.rows {
+        let from = u32::try_from(parts.len())?;
+        parts.extend_from_slice(own)?;
+        let to = u32::try_from(parts.len())?;
+        rows.push(Row {
+            rule: *rule,
+            from,
+            to,
+        })?;
+    }
+    Ok(Plan {
+        rows,
+        parts,
+        method_return: Some(sketch.end),
+        targets: jumps(alloc, sketch.targets)?,
+        breaks: jumps(alloc, sketch.breaks)?,
+        continues: jumps(alloc, sketch.continues)?,
+    })
+}
+
+fn edges(alloc: Global, sketch: &Sketch<'_>) -> Result<Vec<Arrow>, Fail> {
+    let edges = flow(alloc, plan(alloc, sketch)?)?;
+    Ok(edges)
+}
+
+const NAME: Drawn<'static> = (Rule::Primary, &[]);
+
+const UNWALKED: Drawn<'static> = (Rule::Silent, &[]);
+
+// `void g(void) { r = a && b || c ? d : e; }`.
+#[test]
+fn the_second_operand_of_a_logical_operator_is_not_always_evaluated(
+    rt: HostRuntime,
+) -> Result<(), Fail> {
+    let sketch = Sketch {
+        rows: &[
+            UNWALKED,
+            UNWALKED,
+            (Rule::Method, &[Some(3)]),
+            (Rule::Block, &[Some(4)]),
+            (Rule::Call, &[Some(5), Some(6)]),
+            NAME,
+            (Rule::Conditional, &[Some(7), Some(12), Some(13)]),
+            (Rule::ShortCircuit, &[Some(8), Some(11)]),
+            (Rule::ShortCircuit, &[Some(9), Some(10)]),
+            NAME,
+            NAME,
+            NAME,
+            NAME,
+            NAME,
+        ],
+        end: 14,
+        targets: &[],
+        breaks: &[],
+        continues: &[],
+    };
+    let want = [
+        (2, 5),
+        (4, 14),
+        (5, 9),
+        (6, 4),
+        (7, 12),
+        (7, 13),
+        (8, 7),
+        (8, 11),
+        (9, 8),
+        (9, 10),
+        (10, 8),
+        (11, 7),
+        (12, 6),
+        (13, 6),
+    ];
+    assert_eq!(rt; edges(rt.alloc(), &sketch)?.as_slice(), want.as_slice());
+    Ok(())
+}
+
+// `void f(int n) { switch (n) { case 1: a(); case 2: b(); } goto L; while (n) { L: c(); } }`.
+#[test]
+fn a_switch_leads_to_its_cases_and_a_goto_into_a_loop(rt: HostRuntime) -> Result<(), Fail> {
+    let sketch = Sketch {
+        rows: &[
+            UNWALKED,
+            UNWALKED,
+            (Rule::Method, &[Some(4)]),
+            UNWALKED,
+            (Rule::Block, &[Some(5), Some(14), Some(15)]),
+            (Rule::Switch, &[Some(6), Some(7)]),
+            NAME,
+            (Rule::Block, &[Some(8), Some(11)]),
+            (Rule::JumpTarget, &[None, Some(10)]),
+            UNWALKED,
+            (Rule::Call, &[]),
+            (Rule::JumpTarget, &[None, Some(13)]),
+            UNWALKED,
+            (Rule::Call, &[]),
+            (Rule::Goto, &[]),
+            (Rule::While, &[Some(16), Some(17)]),
+            NAME,
+            (Rule::Block, &[Some(18)]),
+            (Rule::JumpTarget, &[None, Some(19)]),
+            (Rule::Call, &[]),
+        ],
+        end: 20,
+        targets: &[(5, 11), (14, 18), (5, 8)],
+        breaks: &[],
+        continues: &[],
+    };
+    let want = [
+        (2, 6),
+        (6, 8),
+        (6, 11),
+        (6, 14),
+        (8, 10),
+        (10, 11),
+        (11, 13),
+        (13, 14),
+        (14, 18),
+        (16, 18),
+        (16, 20),
+        (18, 19),
+        (19, 16),
+    ];
+    assert_eq!(rt; edges(rt.alloc(), &sketch)?.as_slice(), want.as_slice());
+    Ok(())
+}
+
+// `void f(int n) { for (; n; n++) continue; }`.
+#[test]
+fn a_continue_goes_on_at_the_third_part(rt: HostRuntime) -> Result<(), Fail> {
+    let sketch = Sketch {
+        rows: &[
+            UNWALKED,
+            UNWALKED,
+            (Rule::Method, &[Some(4)]),
+            UNWALKED,
+            (Rule::Block, &[Some(5)]),
+            (Rule::For, &[None, Some(6), Some(7), Some(9)]),
+            NAME,
+            (Rule::Call, &[Some(8)]),
+            NAME,
+            (Rule::Continue, &[]),
+        ],
+        end: 10,
+        targets: &[],
+        breaks: &[],
+        continues: &[(5, 9)],
+    };
+    let want = [(2, 6), (6, 9), (6, 10), (7, 6), (8, 7), (9, 8)];
+    assert_eq!(rt; edges(rt.alloc(), &sketch)?.as_slice(), want.as_slice());
+    Ok(())
+}
+
+// `void f(void) { for (;;); }`.
+#[test]
+fn a_loop_without_parts_is_never_left(rt: HostRuntime) -> Result<(), Fail> {
+    let sketch = Sketch {
+        rows: &[
+            UNWALKED,
+            UNWALKED,
+            (Rule::Method, &[Some(3)]),
+            (Rule::Block, &[Some(4)]),
+            (Rule::Endless, &[]),
+        ],
+        end: 5,
+        targets: &[],
+        breaks: &[],
+        continues: &[],
+    };
+    assert!(rt; edges(rt.alloc(), &sketch)?.is_empty());
+    Ok(())
+}
+
+// `void f(int n) {
+//     do { if (n) break; else return; } while (sizeof n);
+//     switch (n) { default: case 1: break; }
+// }`.
+#[test]
+fn a_jump_ends_a_loop_a_switch_or_the_function(rt: HostRuntime) -> Result<(), Fail> {
+    let sketch = Sketch {
+        rows: &[
+            UNWALKED,
+            UNWALKED,
+            (Rule::Method, &[Some(4)]),
+            UNWALKED,
+            (Rule::Block, &[Some(5), Some(13)]),
+            (Rule::Do, &[Some(6), Some(11)]),
+            (Rule::Block, &[Some(7)]),
+            (Rule::If, &[Some(8), Some(9), Some(10)]),
+            NAME,
+            (Rule::Break, &[]),
+            (Rule::Return, &[None]),
+            (Rule::SizeOf, &[]),
+            UNWALKED,
+            (Rule::SwitchDefault, &[Some(14), Some(15)]),
+            NAME,
+            (Rule::Block, &[Some(16)]),
+            (Rule::JumpTarget, &[None, Some(17)]),
+            (Rule::JumpTarget, &[None, Some(19)]),
+            UNWALKED,
+            (Rule::Break, &[]),
+        ],
+        end: 20,
+        targets: &[(13, 16), (13, 17)],
+        breaks: &[(13, 19), (5, 9)],
+        continues: &[],
+    };
+    let want = [
+        (2, 8),
+        (8, 9),
+        (8, 10),
+        (9, 14),
+        (10, 20),
+        (11, 8),
+        (11, 14),
+        (14, 16),
+        (14, 17),
+        (16, 17),
+        (17, 19),
+        (19, 20),
+    ];
+    assert_eq!(rt; edges(rt.alloc(), &sketch)?.as_slice(), want.as_slice());
+    Ok(())
+}
