@@ -1,5 +1,5 @@
 -- The constructs of a plan, joined one after another from the last.
-use Rattle.std.proofs.Common.{ℕ, zero, suc, ◌≡◌, ◌+◌, ◌<◌, ◌≤◌, ◌↔◌, ◌⊎◌, inl, inr, List, [], ◌∷◌, Option, Some, None, slice_get, slice_set, slice_range, length, refl, sym, ◌∙◌, ap, subst, arith, add-one}
+use Rattle.std.proofs.Common.{ℕ, zero, suc, ◌≡◌, ◌+◌, ◌<◌, ◌≤◌, ◌↔◌, ◌⊎◌, inl, inr, List, [], ◌∷◌, Option, Some, None, Bool, IsTrue, slice_get, slice_range, length, refl, sym, ◌∙◌, ap, subst, arith, add-one}
 use Rattle.std.proofs.Math.Nat.{eq-or-lt_of_le}
 use Rattle.std.proofs.lemmas.Option.{slice_get_past, slice_get_within}
 use Rattle.cfg_rules.specs.declared.arrival.Arrival.{Arrival}
@@ -8,7 +8,7 @@ use Rattle.cfg_rules.specs.declared.summary.Summary.{Summary}
 use Rattle.cfg_rules.specs.Member.{IsIn}
 use Rattle.cfg_rules.specs.Rules.{Head, arrow, exit}
 use Rattle.cfg_rules.specs.Plan.{Construct, HasArrow, arrows_at, Breaks, BreaksAt, part}
-use Rattle.cfg_rules.specs.Joined.{Source, after, head, Comes, along, broke, Goes, stops, jumps, finishes, inner, Joins}
+use Rattle.cfg_rules.specs.Joined.{Source, after, head, Comes, along, broke, Goes, stops, jumps, finishes, inner, Joins, IsFirst, IsLast, IsPassable}
 use Rattle.cfg_rules.specs.Sets.{Got, IsSummary}
 use Rattle.cfg_rules.proofs.Summing.{joined_is_summary}
 use Rattle.cfg_rules.proofs.Walks.{flow_is_joined}
@@ -107,16 +107,22 @@ done_more plan x old new m s kept here others = record { each = λ c n low is pa
   by c n is parts (inr above) = kept.each c n above (sym (others c (λ e. omega arith)) ∙ is) parts
 
 -- One more construct is joined.
-pub joined_more : (plan : Plan) (x : ℕ) (old new : Work) (next : Arrival) (out : Joined) (table : List Summary) (m : Summary) → IsJoinedAt (constructs plan) x next old.out out table → m ≡ record { first = out.first; last = next.marks; passable = next.entered } → slice_get new.table.items x ≡ Some m → ((c : ℕ) → ¬ (c ≡ x) → slice_get new.table.items c ≡ slice_get table c) → new.out.first.items ≡ [] → new.out.edges.items ≡ out.edges.items → IsAhead plan x new.ahead → AreJoinedFrom plan (x + 1) old → AreJoinedFrom plan x new
+pub joined_more : (plan : Plan) (x : ℕ) (old new : Work) (next : Arrival) (out : Joined) (table : List Summary) (m : Summary) → IsJoinedAt (constructs plan) x next old.out out table → m.first.items ≡ out.first.items → m.last.items ≡ next.marks.items → m.passable ≡ next.entered → slice_get new.table.items x ≡ Some m → ((c : ℕ) → ¬ (c ≡ x) → slice_get new.table.items c ≡ slice_get table c) → new.out.first.items ≡ [] → new.out.edges.items ≡ out.edges.items → IsAhead plan x new.ahead → AreJoinedFrom plan (x + 1) old → AreJoinedFrom plan x new
 unfolding Got
-joined_more plan x old new next out table m j is here others none edges ahead from = record {
+joined_more plan x old new next out table m j first last passable here others none edges ahead from = record {
   table = done_more (constructs plan) x table new.table.items m summary j.kept here others;
   ahead = ahead;
   first = none;
   edges = λ a b. (λ i. sound a b ((j.joined.goes (after a) b).0 (subst (λ (es : List (ℕ × ℕ)). IsIn es (a, b)) edges i)), λ (y, low, g). subst (λ (es : List (ℕ × ℕ)). IsIn es (a, b)) (sym edges) ((j.joined.goes (after a) b).1 (whole a b y g (eq-or-lt_of_le low))));
 } where
   summary : IsSummary (constructs plan) x m
-  summary = subst (λ (v : Summary). IsSummary (constructs plan) x v) (sym is) (joined_is_summary (constructs plan) x next old.out out from.first j.joined)
+  summary =
+      let is = joined_is_summary (constructs plan) x next old.out out from.first j.joined in
+      record {
+        first = λ b. subst (λ (ms : List ℕ). IsIn ms b ↔ IsFirst (constructs plan) x b) (sym first) (is.first b);
+        last = λ a. subst (λ (ms : List ℕ). IsIn ms a ↔ IsLast (constructs plan) x a) (sym last) (is.last a);
+        passable = subst (λ (b : Bool). IsTrue b ↔ IsPassable (constructs plan) x) (sym passable) is.passable;
+      }
 
   sound : (a b : ℕ) → IsIn old.out.edges.items (a, b) ⊎ Joins (constructs plan) x a b → (y : ℕ) × (x ≤ y) × Joins (constructs plan) y a b
   sound a b (inl o) = above ((from.edges a b).0 o) where

@@ -13,7 +13,10 @@ returns-in-Silent c = λ plan plan_is site ready. record {
 }
 
 pub returns-in-Primary : goal.returns-in-Primary
-returns-in-Primary c = ?
+returns-in-Primary c = if_ok c.join_primary.result c.join_primary.ensures (λ next is plan plan_is site ready. record {
+  joined = is plan (elim c.in-Primary.is [ inl e ↦ inl (site_rule Primary site e) | inr e ↦ inr (site_rule SizeOf site e) ]);
+  kept = ready_kept ready;
+})
 
 pub returns-in-Goto : goal.returns-in-Goto
 returns-in-Goto c = if_ok c.join_goto.result c.join_goto.ensures (λ next is plan plan_is site ready. record {
@@ -22,7 +25,10 @@ returns-in-Goto c = if_ok c.join_goto.result c.join_goto.ensures (λ next is pla
 })
 
 pub returns-in-Break : goal.returns-in-Break
-returns-in-Break c = ?
+returns-in-Break c = if_ok c.join_jump.result c.join_jump.ensures (λ next is plan plan_is site ready. record {
+  joined = is plan (elim c.in-Break.is [ inl e ↦ inl (site_rule Break site e) | inr e ↦ inr (site_rule Continue site e) ]);
+  kept = ready_kept ready;
+})
 
 pub returns-in-Call : goal.returns-in-Call
 returns-in-Call c = if_ok c.call.result c.call.ensures (λ next is. is c.args.jumps)

@@ -1,6 +1,8 @@
 use Rattle.std.proofs.Common.{◌≡◌, ◌∙◌, List, Option, Some, ℕ, refl, sym, subst, ap, length, slice_get, slice_range}
 use Rattle.cfg_flow.specs.declared.plan.Row.{Row}
+use Rattle.cfg_rules.specs.declared.summary.Summary.{Summary}
 use Rattle.cfg_flow.specs.Plans.{HasParts, constructs}
+use Rattle.cfg_flow.specs.Tables.{AreReady}
 use Rattle.cfg_flow.proofs.Joining.{joined_more, ready_from, site_is}
 use Rattle.cfg_flow.proofs.work.Function.join.Goals as goal
 
@@ -14,5 +16,11 @@ returns-clause-joined c = λ plan flat read from.
     let room : length c.args.work.now.table.items ≡ length plan.rows.items = c.requires.room ∙ ap (λ (rows : List Row). length rows) read.rows in
     let ready = ready_from plan c.args.x c.args.work.now.table.items flat room from.table in
     let site = site_is plan row _ c.in_ok-jumps.jumps _ row_is refl parts (sym read.end) taken in
-    let joined = c.in_ok-next.ensures (constructs plan) flat.plan_is site ? in
-    ?
+    let joined = c.in_ok-next.ensures (constructs plan) flat.plan_is site (subst (λ (t : List Summary). AreReady (constructs plan) c.args.x 0 t) (sym c.deref_mut.ensures.value) ready) in
+    let first : c.take_first-first.result.items ≡ c.join.new.out.first.items = cc in
+    let edges : c.take_first-first.new.out.edges.items ≡ c.join.new.out.edges.items = cc in
+    joined_more plan c.args.x _ _ c.in_ok-next.next c.join.new.out c.join.new.table _ joined first refl refl c.put.ensures.is
+        (λ d off. c.put.ensures.others d off ∙ ap (λ (t : List Summary). slice_get t d) c.deref_mut-2.ensures.value)
+        c.take_first-first.ensures.none edges
+        record { targets = taken.targets.left; breaks = taken.breaks.left; continues = taken.continues.left }
+        from
