@@ -1,12 +1,12 @@
 -- The constructs of a plan, joined one after another from the last.
-use Rattle.std.proofs.Common.{ℕ, zero, suc, ◌≡◌, ◌+◌, ◌<◌, ◌≤◌, ◌↔◌, ◌⊎◌, inl, inr, List, [], ◌∷◌, Option, Some, None, Bool, IsTrue, slice_get, slice_range, length, refl, sym, ◌∙◌, ap, subst, arith, add-one}
+use Rattle.std.proofs.Common.{ℕ, zero, suc, ◌≡◌, ◌+◌, ◌<◌, ◌≤◌, ◌↔◌, ◌⊎◌, inl, inr, List, [], ◌∷◌, Option, Some, None, Bool, IsTrue, slice_get, slice_range, length, refl, sym, ◌∙◌, ap, subst, arith}
 use Rattle.std.proofs.Math.Nat.{eq-or-lt_of_le}
 use Rattle.std.proofs.lemmas.Option.{slice_get_past, slice_get_within}
 use Rattle.cfg_rules.specs.declared.arrival.Arrival.{Arrival}
 use Rattle.cfg_rules.specs.declared.joined.Joined.{Joined}
 use Rattle.cfg_rules.specs.declared.summary.Summary.{Summary}
 use Rattle.cfg_rules.specs.Member.{IsIn}
-use Rattle.cfg_rules.specs.Rules.{Head, arrow, exit}
+use Rattle.cfg_rules.specs.Rules.{Head, arrow}
 use Rattle.cfg_rules.specs.Plan.{Construct, HasArrow, arrows_at, Breaks, BreaksAt, part}
 use Rattle.cfg_rules.specs.Joined.{Source, after, head, Comes, along, broke, Goes, stops, jumps, finishes, inner, Joins, IsFirst, IsLast, IsPassable}
 use Rattle.cfg_rules.specs.Sets.{Got, IsSummary}

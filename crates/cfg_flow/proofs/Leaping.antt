@@ -1,22 +1,22 @@
 -- Jumps taken off the end of a list in order.
-use Rattle.std.proofs.Common.{ℕ, zero, suc, ◌≡◌, ◌+◌, ◌-◌, ◌<◌, ◌≤◌, ◌↔◌, ◌⊎◌, inl, inr, List, [], ◌∷◌, ◌++◌, length, get_or, take, Bool, true, false, cond, Option, Some, None, slice_get, refl, sym, ◌∙◌, ap, subst, arith, length-append}
+use Rattle.std.proofs.Common.{ℕ, zero, suc, ◌≡◌, ◌+◌, ◌-◌, ◌<◌, ◌≤◌, ◌⊎◌, inl, inr, List, [], ◌∷◌, ◌++◌, length, get_or, take, Bool, true, false, cond, Some, None, slice_get, refl, sym, ◌∙◌, ap, subst, arith, length-append}
 use Rattle.std.specs.Prelude.{◌==◌}
 use Rattle.std.proofs.lemmas.Option.{get_or_from_slice_get, slice_get-get_or, none-some}
 use Rattle.std.specs.List.Sorted.{IsNonDecreasingBy}
-use Rattle.std.proofs.lemmas.Bool.{eqb-true, eqb-false, eq-eqb}
-use Rattle.std.proofs.lemmas.List.{get_or_append_left, get_or_default}
+use Rattle.std.proofs.lemmas.Bool.{eqb-true, eq-eqb}
+use Rattle.std.proofs.lemmas.List.{get_or_append_left}
 use Rattle.cfg_rules.specs.Member.{IsIn}
 use Rattle.cfg_rules.proofs.Members.{in_left, in_right, in_either}
 use Rattle.cfg_flow.specs.declared.plan.Jump.{Jump}
 use Rattle.cfg_flow.specs.Plans.{marks_at}
-use Rattle.cfg_flow.specs.Jumping.{AreAhead, AreTaken, AreNoneFrom, IsLastFrom, IsMarkAdded}
-use Rattle.cfg_flow.proofs.Members.{contains, is_in, in_one, one_in, none_in}
+use Rattle.cfg_flow.specs.Jumping.{AreAhead, AreTaken, AreNoneFrom, IsMarkAdded}
+use Rattle.cfg_flow.proofs.Members.{contains, in_one, one_in, none_in}
 
 abbrev pub jump : ℕ → ℕ → Jump
 jump x m = record { construct = x; mark = m }
 
 same_jump : (j : Jump) (x m : ℕ) → j.construct ≡ x → j.mark ≡ m → j ≡ jump x m
-same_jump j x m e f = cc (ap (λ (v : ℕ). jump v j.mark) e, ap (λ (v : ℕ). jump x v) f)
+same_jump j x m e f = ap (λ (v : ℕ). jump v j.mark) e ∙ ap (λ (v : ℕ). jump x v) f
 
 -- The marks of x are those of the jumps of x.
 pub marks_in : (x m : ℕ) (js : List Jump) → IsIn (marks_at x js) m → IsIn js (jump x m)

@@ -1,12 +1,12 @@
 -- Summaries that are taken out of the table.
-use Rattle.std.proofs.Common.{ℕ, zero, suc, ◌≡◌, ◌+◌, ◌<◌, ◌≤◌, ◌↔◌, ◌⊎◌, inl, inr, List, [], ◌∷◌, ◌++◌, Option, Some, None, IsTrue, slice_get, length, refl, sym, ◌∙◌, ap, subst, arith, add-one, length-append}
+use Rattle.std.proofs.Common.{ℕ, zero, suc, ◌≡◌, ◌+◌, ◌<◌, ◌≤◌, ◌↔◌, ◌⊎◌, inl, inr, List, [], ◌∷◌, ◌++◌, Option, Some, None, IsTrue, slice_get, length, refl, sym, ◌∙◌, ap, subst, arith, length-append}
 use Rattle.cfg_rules.specs.declared.summary.Summary.{Summary}
 use Rattle.cfg_rules.specs.Member.{IsIn}
 use Rattle.cfg_rules.specs.Plan.{Construct, IsPlan, part, part_count, Continues}
 use Rattle.cfg_rules.specs.Sequence.{AreParts}
 use Rattle.cfg_rules.specs.Sets.{IsFirstOf, IsLastOf, IsPassed, IsSummary, IsPart}
 use Rattle.cfg_rules.proofs.Members.{in_left, in_right, in_either}
-use Rattle.cfg_flow.specs.Tables.{IsGap, IsTakenAt, IsTaken, IsContinued, IsPartAlone, AreDone, AreKept, AreReady, IsPartTaken, ArePartsTaken}
+use Rattle.cfg_flow.specs.Tables.{IsGap, IsTakenAt, IsTaken, IsContinued, IsPartAlone, AreKept, AreReady, IsPartTaken, ArePartsTaken}
 use Rattle.cfg_flow.proofs.Members.{none_in}
 
 gap_alone : (plan : List Construct) (x k : ℕ) (m : Summary) → part plan x k ≡ None → IsGap m → IsPartAlone plan x k m

@@ -5,7 +5,7 @@ use Rattle.std.specs.Cmp.{IsEquivalence, IsTotalOrder, unsigned_ties}
 use Rattle.std.specs.declared.cmp.Ordering.{Ordering}
 use Rattle.std.specs.declared.cmp.Ordering.TheVariants.{Less, Equal, Greater}
 use Rattle.std.specs.Ordering.{eq_by_cmp, is_eq, nat_cmp, ordering_then}
-use Rattle.std.specs.List.{AllByRecursion, AllPairs, Contains, dedup}
+use Rattle.std.specs.List.{AllByRecursion, Contains, dedup}
 use Rattle.std.specs.List.Sorted.{IsPermutation, IsStrictlySortedBy}
 use Rattle.std.proofs.lemmas.Bool.{eqb-true}
 use Rattle.std.proofs.lemmas.Cmp.{by_ranked, eq_by_cmp_equiv, ranked, nat_cmp_total, on_total, then_total}

@@ -1,5 +1,5 @@
 -- What a plan says of the construct at a site.
-use Rattle.std.proofs.Common.{ℕ, zero, suc, ◌≡◌, ◌↔◌, ◌⊎◌, inl, inr, List, Option, Some, None, slice_get, length, refl, sym, ◌∙◌, ap, subst}
+use Rattle.std.proofs.Common.{ℕ, ◌≡◌, ◌↔◌, List, Option, Some, slice_get, length, sym, ◌∙◌, ap, subst}
 use Rattle.cfg_rules.specs.declared.rule.Rule.{Rule}
 use Rattle.cfg_rules.specs.Member.{IsIn}
 use Rattle.cfg_rules.specs.Rules.{CanBreak, CanContinue, body}

@@ -1,5 +1,5 @@
 -- The plan that flat lists say (ours).
-use Rattle.std.specs.Prelude.{ℕ, ◌+◌, ◌≡◌, ◌≤◌, ◌<◌, ◌^◌, List, [], ◌∷◌, Option, Some, length}
+use Rattle.std.specs.Prelude.{ℕ, ◌+◌, ◌≡◌, ◌≤◌, ◌<◌, ◌^◌, List, [], ◌∷◌, Some, length}
 use Rattle.std.specs.Prelude.{cond, ◌==◌, slice_get, slice_range}
 use Rattle.cfg_rules.specs.Plan.{Construct, IsPlan, part}
 use Rattle.cfg_flow.specs.declared.plan.Jump.{Jump}

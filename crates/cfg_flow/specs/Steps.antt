@@ -1,9 +1,8 @@
 -- One construct of a plan, as it is joined (ours).
-use Rattle.std.specs.Prelude.{ℕ, ◌≡◌, ◌≤◌, ◌↔◌, List, [], Some, length, slice_get}
+use Rattle.std.specs.Prelude.{ℕ, ◌≡◌, ◌≤◌, ◌↔◌, List, Some, slice_get}
 use Rattle.cfg_rules.specs.declared.arrival.Arrival.{Arrival}
 use Rattle.cfg_rules.specs.declared.joined.Joined.{Joined}
 use Rattle.cfg_rules.specs.declared.summary.Summary.{Summary}
-use Rattle.cfg_rules.specs.Joined.{Joins}
 use Rattle.cfg_rules.specs.Member.{IsIn}
 use Rattle.cfg_rules.specs.Plan.{Construct, IsPlan}
 use Rattle.cfg_rules.specs.Sets.{IsJoined}

@@ -6,8 +6,6 @@ mod order;
 mod plan;
 mod site;
 mod table;
-#[cfg(test)]
-mod tests;
 mod work;
 
 pub use plan::{Jump, Plan, Row};

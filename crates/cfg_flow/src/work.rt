@@ -134,15 +134,8 @@ pub fn flow(alloc: Global, plan: plan::Plan) -> Result<Vec<(u32, u32)>, AllocErr
     for x in (0..number_of(rows.len())).rev() {
         function.join(x, &mut work)?;
     }
-    let Work {
-        table: _,
-        ahead: _,
-        out,
-    } = work;
-    let Joined {
-        first: _,
-        mut edges,
-    } = out;
+    let Work { out, .. } = work;
+    let Joined { mut edges, .. } = out;
     put_in_order(&mut edges);
     Ok(edges)
 }

@@ -12,8 +12,6 @@ mod rule;
 mod sequence;
 mod statements;
 mod summary;
-#[cfg(test)]
-mod tests;
 
 pub use arrival::Arrival;
 pub use expressions::{join_call, join_conditional, join_primary, join_short_circuit, join_silent};

@@ -1,4 +1,4 @@
-use Rattle.std.proofs.Common.{◌≡◌, ◌∷◌, ◌++◌, [], List, subst, arith, vec_len}
+use Rattle.std.proofs.Common.{◌≡◌, ◌∷◌, ◌++◌, [], List, subst, vec_len}
 use Rattle.cfg_flow.specs.declared.plan.Jump.{Jump}
 use Rattle.cfg_flow.specs.Jumping.{AreNoneFrom, IsLastFrom}
 use Rattle.cfg_flow.proofs.Leaping.{popped, shorter, taking_end, taking_more, taking_none}

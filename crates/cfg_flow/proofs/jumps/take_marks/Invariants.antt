@@ -1,4 +1,4 @@
-use Rattle.std.proofs.Common.{ℕ, ◌+◌, List, length}
+use Rattle.std.proofs.Common.{◌+◌, List, length}
 use Rattle.cfg_flow.specs.declared.plan.Jump.{Jump}
 use Rattle.cfg_flow.specs.Jumping.{AreAhead}
 use Rattle.cfg_flow.proofs.Leaping.{AreTaking}

@@ -29,8 +29,8 @@ returns-clause-joined c = λ plan flat read from.
     let count : length c.put.new.table ≡ middle.len = c.put.ensures.count ∙ ap (λ (t : List Summary). length t) seen ∙ kept in
     let put_in : (with_items middle c.put.new.table).items ≡ c.put.new.table = with_items_is middle c.put.new.table count in
     joined_more plan c.args.x _ _ c.in_ok-next.next c.join.new.out c.join.new.table _ joined first refl refl
-        (ap (λ (t : List Summary). slice_get t c.args.x) put_in ∙ c.put.ensures.is)
-        (λ d off. ap (λ (t : List Summary). slice_get t d) put_in ∙ c.put.ensures.others d off ∙ ap (λ (t : List Summary). slice_get t d) seen)
-        c.take_first-first.ensures.none edges
-        record { targets = taken.targets.left; breaks = taken.breaks.left; continues = taken.continues.left }
-        from
+    (ap (λ (t : List Summary). slice_get t c.args.x) put_in ∙ c.put.ensures.is)
+    (λ d off. ap (λ (t : List Summary). slice_get t d) put_in ∙ c.put.ensures.others d off ∙ ap (λ (t : List Summary). slice_get t d) seen)
+    c.take_first-first.ensures.none edges
+    record { targets = taken.targets.left; breaks = taken.breaks.left; continues = taken.continues.left }
+    from

@@ -1,25 +1,29 @@
-//! Small functions, edge by edge. Constructs have the numbers of their nodes in a whole graph; what
-//! is not walked is passed, and part of nothing.
+//! Small functions, edge by edge.
+//!
+//! Constructs have the numbers of their nodes in a whole graph; what is not walked is passed, and
+//! part of nothing.
 
-use crate::{Jump, Plan, Row, flow};
+use cfg_flow::{Jump, Plan, Row, flow};
 use cfg_rules::Rule;
 use std::alloc::{AllocError, Global};
 use std::test::Fail;
 
 /// A rule with its parts.
-type Drawn<'a> = (Rule, &'a [Option<u32>]);
+type Drawn = (Rule, &'static [Option<u32>]);
 
 /// From the number of a construct to a mark.
 type Arrow = (u32, u32);
 
-/// A plan as it is written by hand.
+/// A plan as it is written by hand, and its edges.
 #[derive(Clone, Copy)]
-struct Sketch<'a> {
-    rows: &'a [Drawn<'a>],
+struct Sketch {
+    shows: &'static str,
+    rows: &'static [Drawn],
     end: u32,
-    targets: &'a [Arrow],
-    breaks: &'a [Arrow],
-    continues: &'a [Arrow],
+    targets: &'static [Arrow],
+    breaks: &'static [Arrow],
+    continues: &'static [Arrow],
+    edges: &'static [Arrow],
 }
 
 fn jumps(alloc: Global, arrows: &[Arrow]) -> Result<Vec<Jump>, AllocError> {
@@ -33,7 +37,7 @@ fn jumps(alloc: Global, arrows: &[Arrow]) -> Result<Vec<Jump>, AllocError> {
     Ok(jumps)
 }
 
-fn plan(alloc: Global, sketch: &Sketch<'_>) -> Result<Plan, Fail> {
+fn plan(alloc: Global, sketch: &Sketch) -> Result<Plan, Fail> {
     let mut rows = Vec::new(alloc);
     let mut parts = Vec::new(alloc);
     for (rule, own) in sketch.rows {
@@ -56,21 +60,14 @@ fn plan(alloc: Global, sketch: &Sketch<'_>) -> Result<Plan, Fail> {
     })
 }
 
-fn edges(alloc: Global, sketch: &Sketch<'_>) -> Result<Vec<Arrow>, Fail> {
-    let edges = flow(alloc, plan(alloc, sketch)?)?;
-    Ok(edges)
-}
+const NAME: Drawn = (Rule::Primary, &[]);
 
-const NAME: Drawn<'static> = (Rule::Primary, &[]);
+const UNWALKED: Drawn = (Rule::Silent, &[]);
 
-const UNWALKED: Drawn<'static> = (Rule::Silent, &[]);
-
-// `void g(void) { r = a && b || c ? d : e; }`.
-#[test]
-fn the_second_operand_of_a_logical_operator_is_not_always_evaluated(
-    rt: HostRuntime,
-) -> Result<(), Fail> {
-    let sketch = Sketch {
+const FUNCTIONS: [Sketch; 6] = [
+    // `void g(void) { r = a && b || c ? d : e; }`.
+    Sketch {
+        shows: "the second operand of a logical operator is not always evaluated",
         rows: &[
             UNWALKED,
             UNWALKED,
@@ -91,31 +88,26 @@ fn the_second_operand_of_a_logical_operator_is_not_always_evaluated(
         targets: &[],
         breaks: &[],
         continues: &[],
-    };
-    let want = [
-        (2, 5),
-        (4, 14),
-        (5, 9),
-        (6, 4),
-        (7, 12),
-        (7, 13),
-        (8, 7),
-        (8, 11),
-        (9, 8),
-        (9, 10),
-        (10, 8),
-        (11, 7),
-        (12, 6),
-        (13, 6),
-    ];
-    assert_eq!(rt; edges(rt.alloc(), &sketch)?.as_slice(), want.as_slice());
-    Ok(())
-}
-
-// `void f(int n) { switch (n) { case 1: a(); case 2: b(); } goto L; while (n) { L: c(); } }`.
-#[test]
-fn a_switch_leads_to_its_cases_and_a_goto_into_a_loop(rt: HostRuntime) -> Result<(), Fail> {
-    let sketch = Sketch {
+        edges: &[
+            (2, 5),
+            (4, 14),
+            (5, 9),
+            (6, 4),
+            (7, 12),
+            (7, 13),
+            (8, 7),
+            (8, 11),
+            (9, 8),
+            (9, 10),
+            (10, 8),
+            (11, 7),
+            (12, 6),
+            (13, 6),
+        ],
+    },
+    // `void f(int n) { switch (n) { case 1: a(); case 2: b(); } goto L; while (n) { L: c(); } }`.
+    Sketch {
+        shows: "a switch leads to its cases and a goto into a loop",
         rows: &[
             UNWALKED,
             UNWALKED,
@@ -142,30 +134,25 @@ fn a_switch_leads_to_its_cases_and_a_goto_into_a_loop(rt: HostRuntime) -> Result
         targets: &[(5, 11), (14, 18), (5, 8)],
         breaks: &[],
         continues: &[],
-    };
-    let want = [
-        (2, 6),
-        (6, 8),
-        (6, 11),
-        (6, 14),
-        (8, 10),
-        (10, 11),
-        (11, 13),
-        (13, 14),
-        (14, 18),
-        (16, 18),
-        (16, 20),
-        (18, 19),
-        (19, 16),
-    ];
-    assert_eq!(rt; edges(rt.alloc(), &sketch)?.as_slice(), want.as_slice());
-    Ok(())
-}
-
-// `void f(int n) { for (; n; n++) continue; }`.
-#[test]
-fn a_continue_goes_on_at_the_third_part(rt: HostRuntime) -> Result<(), Fail> {
-    let sketch = Sketch {
+        edges: &[
+            (2, 6),
+            (6, 8),
+            (6, 11),
+            (6, 14),
+            (8, 10),
+            (10, 11),
+            (11, 13),
+            (13, 14),
+            (14, 18),
+            (16, 18),
+            (16, 20),
+            (18, 19),
+            (19, 16),
+        ],
+    },
+    // `void f(int n) { for (; n; n++) continue; }`.
+    Sketch {
+        shows: "a continue goes on at the third part",
         rows: &[
             UNWALKED,
             UNWALKED,
@@ -182,16 +169,11 @@ fn a_continue_goes_on_at_the_third_part(rt: HostRuntime) -> Result<(), Fail> {
         targets: &[],
         breaks: &[],
         continues: &[(5, 9)],
-    };
-    let want = [(2, 6), (6, 9), (6, 10), (7, 6), (8, 7), (9, 8)];
-    assert_eq!(rt; edges(rt.alloc(), &sketch)?.as_slice(), want.as_slice());
-    Ok(())
-}
-
-// `void f(void) { for (;;); }`.
-#[test]
-fn a_loop_without_parts_is_never_left(rt: HostRuntime) -> Result<(), Fail> {
-    let sketch = Sketch {
+        edges: &[(2, 6), (6, 9), (6, 10), (7, 6), (8, 7), (9, 8)],
+    },
+    // `void f(void) { for (;;); }`.
+    Sketch {
+        shows: "a loop without parts is never left",
         rows: &[
             UNWALKED,
             UNWALKED,
@@ -203,18 +185,14 @@ fn a_loop_without_parts_is_never_left(rt: HostRuntime) -> Result<(), Fail> {
         targets: &[],
         breaks: &[],
         continues: &[],
-    };
-    assert!(rt; edges(rt.alloc(), &sketch)?.is_empty());
-    Ok(())
-}
-
-// `void f(int n) {
-//     do { if (n) break; else return; } while (sizeof n);
-//     switch (n) { default: case 1: break; }
-// }`.
-#[test]
-fn a_jump_ends_a_loop_a_switch_or_the_function(rt: HostRuntime) -> Result<(), Fail> {
-    let sketch = Sketch {
+        edges: &[],
+    },
+    // `void f(int n) {
+    //     do { if (n) break; else return; } while (sizeof n);
+    //     switch (n) { default: case 1: break; }
+    // }`.
+    Sketch {
+        shows: "a jump ends a loop a switch or the function",
         rows: &[
             UNWALKED,
             UNWALKED,
@@ -241,21 +219,61 @@ fn a_jump_ends_a_loop_a_switch_or_the_function(rt: HostRuntime) -> Result<(), Fa
         targets: &[(13, 16), (13, 17)],
         breaks: &[(13, 19), (5, 9)],
         continues: &[],
-    };
-    let want = [
-        (2, 8),
-        (8, 9),
-        (8, 10),
-        (9, 14),
-        (10, 20),
-        (11, 8),
-        (11, 14),
-        (14, 16),
-        (14, 17),
-        (16, 17),
-        (17, 19),
-        (19, 20),
-    ];
-    assert_eq!(rt; edges(rt.alloc(), &sketch)?.as_slice(), want.as_slice());
+        edges: &[
+            (2, 8),
+            (8, 9),
+            (8, 10),
+            (9, 14),
+            (10, 20),
+            (11, 8),
+            (11, 14),
+            (14, 16),
+            (14, 17),
+            (16, 17),
+            (17, 19),
+            (19, 20),
+        ],
+    },
+    // `void f(int n) { switch (n) { while (n) { case 1: continue; } } }`.
+    Sketch {
+        shows: "a case within a loop is entered from the switch around the loop",
+        rows: &[
+            UNWALKED,
+            UNWALKED,
+            (Rule::Method, &[Some(4)]),
+            UNWALKED,
+            (Rule::Block, &[Some(5)]),
+            (Rule::Switch, &[Some(6), Some(7)]),
+            NAME,
+            (Rule::Block, &[Some(8)]),
+            (Rule::While, &[Some(9), Some(10)]),
+            NAME,
+            (Rule::Block, &[Some(11)]),
+            (Rule::JumpTarget, &[None, Some(13)]),
+            UNWALKED,
+            (Rule::Continue, &[]),
+        ],
+        end: 14,
+        targets: &[(5, 11)],
+        breaks: &[],
+        continues: &[(8, 13)],
+        edges: &[
+            (2, 6),
+            (6, 11),
+            (6, 14),
+            (9, 11),
+            (9, 14),
+            (11, 13),
+            (13, 9),
+        ],
+    },
+];
+
+#[test]
+fn the_edges_of_a_function_are_its_flow(rt: HostRuntime) -> Result<(), Fail> {
+    for sketch in &FUNCTIONS {
+        let edges = flow(rt.alloc(), plan(rt.alloc(), sketch)?)?;
+        assert_eq!(rt; edges.as_slice(), sketch.edges, "{}", sketch.shows);
+    }
     Ok(())
 }
