@@ -38,8 +38,8 @@ pub record HasParts (row : Row) (count : ℕ) : Type 0 where
   pub forward : row.from ≤ row.to
   pub within : row.to ≤ count
 
--- A plan whose flow is asked for: its constructs are a plan, each part of a construct is a construct
--- after it, and their numbers are numbers of nodes.
+-- A plan whose flow is asked for: its constructs are a plan, each part of one is a construct after
+-- it, and their numbers are numbers of nodes.
 pub record IsFlat (plan : Plan) : Type 0 where
   pub plan_is : IsPlan (constructs plan)
   pub parts_follow : (x k c : ℕ) → part (constructs plan) x k ≡ Some c →
