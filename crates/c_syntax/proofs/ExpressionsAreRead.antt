@@ -384,9 +384,9 @@ module _ (tokens : Tokens) where
           })))))));
         }
 
-    links_are_read : {given : Type 0} → IsRead tokens stage given (λ d. lang.links d level (inner d)) (read.links room read_inner) no begins_operand (λ a. after_form)
+    links_are_read : {given : Type 0} (chain : Chain) → IsRead tokens stage given (λ d. lang.links d level (inner d) chain) (read.links room read_inner chain) no begins_operand (λ a. after_form)
     unfolding lang.links read.links
-    links_are_read = read_repeat brace (λ found. after_form) link_is_read refl link_ends chain_start
+    links_are_read chain = read_repeat brace (λ found. after_form) link_is_read refl link_ends chain
 
     all_suffixes_are_read : {given : Type 0} → IsRead tokens stage given (λ d. lang.all_suffixes d level (inner d)) (read.all_suffixes room read_inner) keeping a_suffix (λ a. a_suffix)
     unfolding lang.all_suffixes read.all_suffixes
@@ -406,7 +406,7 @@ module _ (tokens : Tokens) where
 
     prefixed_is_read : {given : Type 0} → IsRead tokens stage given (λ d. lang.prefixed d level (inner d)) (read.prefixed room read_inner) no begins_operand (λ a. after_operand)
     unfolding lang.prefixed read.prefixed
-    prefixed_is_read = read_then (λ b. after_operand) links_are_read finished_is_read form_apart (λ b. refl) (λ a b. refl)
+    prefixed_is_read = read_then (λ b. after_operand) (links_are_read chain_start) finished_is_read form_apart (λ b. refl) (λ a b. refl)
 
     -- ---- Operators (6.5.5 to 6.5.16)
 
@@ -497,9 +497,10 @@ module _ (tokens : Tokens) where
           };
         }
 
-    targets_are_read : {given : Type 0} → IsRead tokens stage given (λ d. lang.targets d level (inner d)) (read.targets room read_inner) no begins_operand (λ b. after_target)
+    targets_are_read : {given : Type 0} (targets : List (Prefixed × ℕ)) →
+        IsRead tokens stage given (λ d. lang.targets d level (inner d) targets) (read.targets room read_inner targets) no begins_operand (λ b. after_target)
     unfolding lang.targets read.targets
-    targets_are_read = read_repeat an_assignment (λ b. after_target) target_is_read refl target_ends []
+    targets_are_read targets = read_repeat an_assignment (λ b. after_target) target_is_read refl target_ends targets
 
     pub rest_of_is_read : {given : Type 0} (begun : Begun) →
         IsRead tokens stage given (λ d. lang.rest_of d level (inner d) begun) (read.rest_of room read_inner begun) keeping (a_binary ++ mark MARK_QUESTION ∷ []) (λ a. after_cond)
@@ -510,7 +511,7 @@ module _ (tokens : Tokens) where
 
     pub whole_is_read : {given : Type 0} → IsRead tokens stage given (λ d. lang.whole d level (inner d)) (read.whole room read_inner) no begins_operand (λ a. after_assign)
     unfolding lang.whole read.whole
-    whole_is_read = read_then (λ b. after_assign) targets_are_read rest_of_is_read (λ a. refl) (λ b. refl) (λ a b. refl)
+    whole_is_read = read_then (λ b. after_assign) (targets_are_read []) rest_of_is_read (λ a. refl) (λ b. refl) (λ a b. refl)
 
     -- ---- Constant expressions (6.6), and those that begin otherwise
 
@@ -558,13 +559,13 @@ module _ (tokens : Tokens) where
     links_behind_is_read : {given : Type 0} (turn : Turn Chain Found) →
         IsRead tokens stage given (λ d. lang.links_behind d level (inner d) turn) (read.links_behind room read_inner turn) (null_turn turn) (first_turn turn) (λ found. after_form)
     unfolding lang.links_behind read.links_behind
-    links_behind_is_read (Again chain) = read_repeat brace (λ found. after_form) link_is_read refl link_ends chain
+    links_behind_is_read (Again chain) = links_are_read chain
     links_behind_is_read (Done found) = read_weaker (λ found. after_form) (λ g. g) (λ a. refl) (read_pure found)
 
     targets_behind_is_read : {given : Type 0} (turn : Turn (List (Prefixed × ℕ)) Begun) →
         IsRead tokens stage given (λ d. lang.targets_behind d level (inner d) turn) (read.targets_behind room read_inner turn) (null_turn turn) (first_turn turn) (λ b. after_target)
     unfolding lang.targets_behind read.targets_behind
-    targets_behind_is_read (Again targets) = read_repeat an_assignment (λ b. after_target) target_is_read refl target_ends targets
+    targets_behind_is_read (Again targets) = targets_are_read targets
     targets_behind_is_read (Done begun) = read_weaker (λ b. after_target) (λ g. g) (λ a. refl) (read_pure begun)
 
     link_apart : (turn : Turn Chain Found) → are_disjoint (after_link turn) (first_turn turn) ≡ true

@@ -152,7 +152,7 @@ module _ (tokens : Tokens) where
   pub expr_is_exact : (around : Around) (level : ℕ) → level ≤ HIGHEST_LEVEL + 1 → (scopes : OpenScopes) (left : List KeptToken) →
       IsExact tokens.IsToken around (λ d. expr d level scopes) left
       (read.expr (suc (room_on level)) (record { tokens = left; scope = scopes; around = around }))
-  unfolding expr assign read.expr read.simplest_in read.assign
+  unfolding expr assign read.expr read.assign
   expr_is_exact around level h scopes left =
       (inner_expr_is_read tokens {level = level} (suc (room_on level)) (record { is = λ s. omega arith }) (λ d. nested assign_body d level tt)
       _ {holds = Prim.Unit {0}} (λ k. tt)

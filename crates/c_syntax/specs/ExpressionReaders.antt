@@ -243,8 +243,8 @@ module _ (room : ℕ) (inner : InnerReaders) where
       (where_mark MARK_LEFT_PAREN (paren chain) (where_among a_name (name chain)
       (where_among a_constant (constant chain) (text chain)))))))
 
-  unfoldable pub links : PartReader Found
-  links = repeat link chain_start
+  unfoldable pub links : Chain → PartReader Found
+  links = repeat link
 
   abbrev pub finished : Found → PartReader Prefixed
   finished (Operand prefixes base) = do
@@ -254,7 +254,7 @@ module _ (room : ℕ) (inner : InnerReaders) where
 
   unfoldable pub prefixed : PartReader Prefixed
   prefixed = do
-    found ← links
+    found ← links chain_start
     finished found
 
   -- ---- Operators (6.5.5 to 6.5.16)
@@ -302,8 +302,8 @@ module _ (room : ℕ) (inner : InnerReaders) where
     operand ← prefixed
     target_at targets operand (is_target operand)
 
-  unfoldable pub targets : PartReader Begun
-  targets = repeat target []
+  unfoldable pub targets : List (Prefixed × ℕ) → PartReader Begun
+  targets = repeat target
 
   -- Behind the targets and the first operand of the value.
   unfoldable pub rest_of : Begun → PartReader Assign
@@ -314,7 +314,7 @@ module _ (room : ℕ) (inner : InnerReaders) where
 
   unfoldable pub whole : PartReader Assign
   whole = do
-    begun ← targets
+    begun ← targets []
     rest_of begun
 
   -- ---- Constant expressions (6.6), and those that begin otherwise
@@ -354,10 +354,10 @@ module _ (room : ℕ) (inner : InnerReaders) where
 
   -- Behind a link, and behind the turn of a target.
   unfoldable pub links_behind : Turn Chain Found → PartReader Found
-  links_behind turn = after (repeat link) turn
+  links_behind turn = after links turn
 
   unfoldable pub targets_behind : Turn (List (Prefixed × ℕ)) Begun → PartReader Begun
-  targets_behind turn = after (repeat target) turn
+  targets_behind turn = after targets turn
 
   -- The first operand, the first target, and the whole of an expression of the form.
   unfoldable pub first_found : AssignForm → PartReader Found

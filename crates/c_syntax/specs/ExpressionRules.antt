@@ -242,8 +242,8 @@ module _ (turns : ℕ) where
     link chain = operator chain or stepped chain or sized chain or aligned chain or paren chain or
         name chain or constant chain or text chain
 
-    unfoldable pub links : Part Found
-    links = repeat turns link chain_start
+    unfoldable pub links : Chain → Part Found
+    links = repeat turns link
 
     abbrev pub finished : Found → Part Prefixed
     finished (Operand prefixes base) = do
@@ -253,7 +253,7 @@ module _ (turns : ℕ) where
 
     unfoldable pub prefixed : Part Prefixed
     prefixed = do
-      found ← links
+      found ← links chain_start
       finished found
 
     -- ---- Operators (6.5.5 to 6.5.16)
@@ -301,8 +301,8 @@ module _ (turns : ℕ) where
       operand ← prefixed
       target_at targets operand (is_target operand)
 
-    unfoldable pub targets : Part Begun
-    targets = repeat turns target []
+    unfoldable pub targets : List (Prefixed × ℕ) → Part Begun
+    targets = repeat turns target
 
     -- Behind the targets and the first operand of the value.
     unfoldable pub rest_of : Begun → Part Assign
@@ -313,7 +313,7 @@ module _ (turns : ℕ) where
 
     unfoldable pub whole : Part Assign
     whole = do
-      begun ← targets
+      begun ← targets []
       rest_of begun
 
     -- ---- Constant expressions (6.6), and those that begin otherwise
@@ -349,10 +349,10 @@ module _ (turns : ℕ) where
 
     -- Behind a link, and behind the turn of a target.
     unfoldable pub links_behind : Turn Chain Found → Part Found
-    links_behind turn = after (repeat turns link) turn
+    links_behind turn = after links turn
 
     unfoldable pub targets_behind : Turn (List (Prefixed × ℕ)) Begun → Part Begun
-    targets_behind turn = after (repeat turns target) turn
+    targets_behind turn = after targets turn
 
     -- The first operand, the first target, and the whole of an expression of the form.
     unfoldable pub first_found : AssignForm → Part Found

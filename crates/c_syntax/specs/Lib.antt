@@ -9,4 +9,6 @@ pub mod TypeNameRules
 pub mod TypeNameReaders
 pub mod SimplestRules
 pub mod SimplestReaders
+pub mod Gives
+pub mod Nests
 pub mod ExactExpressions

@@ -68,9 +68,12 @@ a_record = map key (KEY_STRUCT ∷ KEY_UNION ∷ [])
 abbrev pub begins_specifier : List ℕ
 begins_specifier = a_basic_type ++ a_record ++ key KEY_ENUM ∷ []
 
--- What begins a type name (6.7.7).
+-- What begins a type name (6.7.7), but for typedef names.
+abbrev pub a_type_word : List ℕ
+a_type_word = key KEY_ATOMIC ∷ begins_specifier ++ a_plain_qualifier
+
 abbrev pub a_type : List ℕ
-a_type = a_typedef_name ++ key KEY_ATOMIC ∷ begins_specifier ++ a_plain_qualifier
+a_type = a_typedef_name ++ a_type_word
 
 -- Marks that begin a suffix, but for `++` and `--` (6.5.2).
 abbrev pub suffix_marks : List ℕ

@@ -32,7 +32,7 @@ unfoldable pub assign : ℕ → PartReader Assign
 assign room = nested_reader assign_body room tt
 
 -- What stands in the brackets of an expression, where so many levels are left there.
-unfoldable pub simplest_in : ℕ → InnerReaders
+abbrev pub simplest_in : ℕ → InnerReaders
 simplest_in room = simplest room (assign room)
 
 -- An expression, where fewer levels are left than the number.
