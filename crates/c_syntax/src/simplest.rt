@@ -48,11 +48,7 @@ impl<F: Fn(Global, usize, &mut Source<'_>) -> Result<Assign, Stop>> Inner for Si
 }
 
 /// An assignment expression, where fewer levels are left than `room`.
-pub(crate) fn assign_in(
-    alloc: Global,
-    room: usize,
-    source: &mut Source<'_>,
-) -> Result<Assign, Stop>
+pub(crate) fn assign_in(alloc: Global, room: usize, source: &mut Source<'_>) -> Result<Assign, Stop>
     ensures { Reads (spec.assign room (input_from source.old)) result (input_from source.new) }
 {
     if room == 0 {
