@@ -1,5 +1,5 @@
 -- The list of the nodes above one has its root last, and its nearest METHOD as the first METHOD.
-use Rattle.std.proofs.Common.{◌≡◌, ℕ, zero, suc, ◌≤◌, ◌==◌, Bool, true, false, if◌then◌else◌, List, [], ◌∷◌, Option, Some, None, inl, inr, length, get_or, slice_get, refl, ap, sym, subst, ◌∙◌, arith, eqb-true, eq-eqb}
+use Rattle.std.proofs.Common.{◌≡◌, ℕ, zero, suc, ◌≤◌, ◌==◌, Bool, true, false, if◌then◌else◌, List, [], ◌∷◌, Option, Some, None, inl, inr, length, get_or, slice_get, refl, ap, sym, ◌∙◌, arith, eqb-true, eq-eqb}
 use Rattle.cpg_schema.specs.declared.label.Label.{Label}
 use Rattle.cpg_schema.specs.declared.label.Label.TheVariants as label
 use Rattle.cpg_schema.specs.Names.{label_rank}
@@ -8,7 +8,7 @@ use Rattle.cpg_schema.specs.Fitting.{IsGraph}
 use Rattle.cpg_schema.specs.Shape.{IsShaped}
 use Rattle.graph_parts.specs.Finds.{Finds}
 use Rattle.graph_parts.specs.Parts.{IsChild, IsNodeWith, HasLabel}
-use Rattle.graph_parts.specs.NodesAbove.{parent_in, with_above, above_within, nodes_above, is_labelled, last_of, first_labelled, root_at, method_at}
+use Rattle.graph_parts.specs.NodesAbove.{parent_in, with_above, above_within, is_labelled, last_of, first_labelled, root_at, method_at}
 use Rattle.graph_parts.specs.Standing.{IsNearestAbove, IsMethodAbove, IsRootOf}
 use Rattle.graph_parts.proofs.Tree.{child_at, edge_at, above_in, nearest_down, nearest_up, nearest_here, none_above}
 use Rattle.graph_parts.proofs.Depth.{found, missing, few}

@@ -1,5 +1,5 @@
 -- A climb from a node towards its root: in search of a label, and to the end.
-use Rattle.std.proofs.Common.{◌≡◌, ℕ, ◌<◌, ◌⊎◌, inl, inr, length, refl, sym, subst}
+use Rattle.std.proofs.Common.{ℕ, ◌<◌, inl, inr, length, refl, subst}
 use Rattle.cpg_schema.specs.declared.label.Label.{Label}
 use Rattle.cpg_schema.specs.Graph.{PlainGraph}
 use Rattle.cpg_schema.specs.Shape.{IsAbove, IsShaped}

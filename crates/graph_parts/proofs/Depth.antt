@@ -1,5 +1,5 @@
 -- How many nodes are above one: the climb from a node to its root ends.
-use Rattle.std.proofs.Common.{◌≡◌, ℕ, zero, suc, ◌+◌, ◌<◌, ◌≤◌, ◌==◌, ◌&&◌, ◌||◌, Bool, true, false, if◌then◌else◌, List, [], ◌∷◌, Option, Some, None, inl, inr, length, get_or, slice_get, refl, ap, sym, subst, ◌∙◌, arith, eqb, eqb-true, eq-eqb, ne_eqb}
+use Rattle.std.proofs.Common.{◌≡◌, ℕ, zero, suc, ◌<◌, ◌≤◌, ◌==◌, ◌&&◌, ◌||◌, Bool, true, false, if◌then◌else◌, List, [], ◌∷◌, Option, Some, None, inl, inr, length, get_or, refl, ap, sym, subst, ◌∙◌, arith, eqb, eqb-true, eq-eqb, ne_eqb}
 use Rattle.std.specs.List.{list_any, IsDistinct, AllByRecursion}
 use Rattle.std.proofs.lemmas.Bool.{and_parts}
 use Rattle.std.proofs.lemmas.Option.{slice_get_within, get_or_from_slice_get}
@@ -9,13 +9,13 @@ use Rattle.cpg_schema.specs.declared.edge_kind.EdgeKind.{EdgeKind}
 use Rattle.cpg_schema.specs.declared.edge_kind.EdgeKind.TheVariants.{Ast}
 use Rattle.cpg_schema.specs.Names.{kind_rank}
 use Rattle.cpg_schema.specs.Graph.{PlainEdge, PlainGraph}
-use Rattle.cpg_schema.specs.Fitting.{IsEdgeAmong, IsGraph}
+use Rattle.cpg_schema.specs.Fitting.{IsGraph}
 use Rattle.cpg_schema.specs.Shape.{IsAstEdgeAt, IsAbove, child as child_edge, descendant, IsShaped}
 use Rattle.graph_parts.specs.Parts.{HasEdge, IsChild}
 use Rattle.graph_parts.specs.NodesAbove.{parent_in, with_above, above_within, nodes_above}
-use Rattle.graph_parts.specs.Standing.{IsIn, IsRootOf}
+use Rattle.graph_parts.specs.Standing.{IsRootOf}
 use Rattle.graph_parts.proofs.KindRank.{kind_from_rank}
-use Rattle.graph_parts.proofs.Tree.{child_at, edge_at, above_child, above_further, above_in, last_of, one_parent}
+use Rattle.graph_parts.proofs.Tree.{child_at, edge_at, above_child, above_further, above_in, one_parent}
 
 abbrev pub depth : PlainGraph → ℕ → ℕ
 depth graph node = length (nodes_above graph node)

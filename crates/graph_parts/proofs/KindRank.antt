@@ -1,5 +1,5 @@
 -- A kind is known by its rank.
-use Rattle.std.proofs.Common.{◌≡◌, ℕ, [], ap, sym}
+use Rattle.std.proofs.Common.{◌≡◌, [], ap, sym}
 use Rattle.std.specs.declared.cmp.Ordering.{Ordering}
 use Rattle.std.specs.declared.cmp.Ordering.TheVariants.{Equal}
 use Rattle.std.specs.Ordering.{nat_cmp, ordering_then}

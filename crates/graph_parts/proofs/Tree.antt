@@ -1,12 +1,9 @@
 -- The tree that the AST edges of a shaped graph make.
-use Rattle.std.proofs.Common.{◌≡◌, ℕ, ◌<◌, Some, ◌⊎◌, inl, inr, length, slice_get, refl, ap, sym, subst, ◌∙◌, arith}
-use Rattle.cpg_schema.specs.declared.edge_kind.EdgeKind.{EdgeKind}
-use Rattle.cpg_schema.specs.declared.edge_kind.EdgeKind.TheVariants.{Ast}
+use Rattle.std.proofs.Common.{◌≡◌, ℕ, Some, ◌⊎◌, inl, inr, slice_get, refl, ap, sym, subst, ◌∙◌}
 use Rattle.cpg_schema.specs.declared.label.Label.{Label}
 use Rattle.cpg_schema.specs.Graph.{PlainEdge, PlainGraph}
-use Rattle.cpg_schema.specs.Fitting.{IsGraph}
 use Rattle.cpg_schema.specs.Shape.{IsAstEdgeAt, IsAbove, child as child_of, descendant, IsShaped}
-use Rattle.graph_parts.specs.Parts.{HasEdge, IsChild, IsNodeWith, HasLabel}
+use Rattle.graph_parts.specs.Parts.{IsChild, IsNodeWith, HasLabel}
 use Rattle.graph_parts.specs.Standing.{IsIn, IsNearestAbove, IsRootOf}
 
 module _ (graph : PlainGraph) where
@@ -25,8 +22,8 @@ module _ (graph : PlainGraph) where
   pub above_in : (top parent child : ℕ) → IsIn graph top parent → IsChild graph parent child → IsAbove graph.edges top child
   above_in top parent child holds h =
       elim holds [
-        inl same ↦ subst (λ (at : ℕ). IsAbove graph.edges at child) (sym same) (above_child parent child h)
-      | inr up ↦ above_further top parent child up h
+        | inl same ↦ subst (λ (at : ℕ). IsAbove graph.edges at child) (sym same) (above_child parent child h)
+        | inr up ↦ above_further top parent child up h
       ]
 
   pub above_trans : (a b c : ℕ) → IsAbove graph.edges a b → IsAbove graph.edges b c → IsAbove graph.edges a c
@@ -67,21 +64,21 @@ module _ (graph : PlainGraph) (shaped : IsShaped graph) where
       (a ≡ b) ⊎ (IsAbove graph.edges a b ⊎ IsAbove graph.edges b a)
   compare_above a b _ (child_of position node at) other =
       elim (in_parent b a node other (child_at graph position a node at)) [
-        inl same ↦ inl (sym same)
-      | inr up ↦ inr (inr up)
+        | inl same ↦ inl (sym same)
+        | inr up ↦ inr (inr up)
       ]
   compare_above a b _ (descendant position parent node up at) other =
       elim (in_parent b parent node other (child_at graph position parent node at)) [
-        inl same ↦ inr (inl (subst (λ (n : ℕ). IsAbove graph.edges a n) (sym same) up))
-      | inr more ↦ compare_above a b parent up more
+        | inl same ↦ inr (inl (subst (λ (n : ℕ). IsAbove graph.edges a n) (sym same) up))
+        | inr more ↦ compare_above a b parent up more
       ]
 
   pub one_nearest : (label : Label) (node first second : ℕ) → IsNearestAbove graph label node first → IsNearestAbove graph label node second → first ≡ second
   one_nearest label node first second one two =
       elim (compare_above first second node one.is_above two.is_above) [
-        inl same ↦ same
-      | inr (inl up) ↦ absurd (one.nearest second up two.is_above two.is_node)
-      | inr (inr up) ↦ absurd (two.nearest first up one.is_above one.is_node)
+        | inl same ↦ same
+        | inr (inl up) ↦ absurd (one.nearest second up two.is_above two.is_node)
+        | inr (inr up) ↦ absurd (two.nearest first up one.is_above one.is_node)
       ]
 
   pub one_root : (node first second : ℕ) → IsRootOf graph node first → IsRootOf graph node second → first ≡ second
@@ -96,9 +93,9 @@ module _ (graph : PlainGraph) (shaped : IsShaped graph) where
       roots a b n (inr up) top_a (inl other) top_b = absurd (below a b (subst (λ (k : ℕ). IsAbove graph.edges a k) (sym other) up) top_b)
       roots a b n (inr up) top_a (inr more) top_b =
           elim (compare_above a b n up more) [
-            inl same ↦ same
-          | inr (inl over) ↦ absurd (below a b over top_b)
-          | inr (inr over) ↦ absurd (below b a over top_a)
+            | inl same ↦ same
+            | inr (inl over) ↦ absurd (below a b over top_b)
+            | inr (inr over) ↦ absurd (below b a over top_a)
           ]
 
   -- the nearest above a node whose parent lacks the label is the nearest above the parent
@@ -110,7 +107,6 @@ module _ (graph : PlainGraph) (shaped : IsShaped graph) where
     nearest = λ between over under has.
         lacking between over has (in_parent between parent node under h);
   }
-
     where
       lacking : (between : ℕ) → IsAbove graph.edges found between → IsNodeWith graph (HasLabel label) between → IsIn graph between parent → ⊥
       lacking between over has (inl same) = lacks (subst (λ (k : ℕ). IsNodeWith graph (HasLabel label) k) same has)
@@ -120,8 +116,8 @@ module _ (graph : PlainGraph) (shaped : IsShaped graph) where
       IsNearestAbove graph label node found → IsNearestAbove graph label parent found
   nearest_up label parent node found h lacks near =
       elim (in_parent found parent node near.is_above h) [
-        inl same ↦ absurd (lacks (subst (λ (k : ℕ). IsNodeWith graph (HasLabel label) k) same near.is_node))
-      | inr up ↦ record {
+        | inl same ↦ absurd (lacks (subst (λ (k : ℕ). IsNodeWith graph (HasLabel label) k) same near.is_node))
+        | inr up ↦ record {
           is_above = up;
           is_node = near.is_node;
           nearest = λ between over under has. near.nearest between over (above_further graph between parent node under h) has;

@@ -1,28 +1,27 @@
 -- A walk that comes to one node more, and one that has come to all.
-use Rattle.std.proofs.Common.{◌≡◌, ℕ, zero, suc, ◌+◌, ◌<◌, ◌≤◌, ◌==◌, Bool, true, false, if◌then◌else◌, List, [], ◌∷◌, ◌++◌, Option, Some, None, ◌⊎◌, inl, inr, length, get_or, slice_get, slice_index, slice_set, refl, ap, sym, subst, ◌∙◌, arith, eqb, eqb-true, eq-eqb, append-nil, append_assoc, map, replicate}
+use Rattle.std.proofs.Common.{◌≡◌, ℕ, zero, suc, ◌+◌, ◌<◌, ◌≤◌, Bool, true, false, if◌then◌else◌, List, [], ◌∷◌, ◌++◌, Option, Some, None, ◌⊎◌, inl, inr, length, get_or, slice_get, slice_index, slice_set, refl, ap, sym, subst, ◌∙◌, arith, eqb, eqb-true, append-nil, append_assoc, map, replicate}
 use Rattle.std.specs.List.{Contains, IsDistinct, list_any}
 use Rattle.std.proofs.lemmas.Cmp.{nat_eq_equiv}
 use Rattle.std.proofs.lemmas.Bool.{eqb-false}
 use Rattle.std.specs.Prelude.{option_map}
 use Rattle.std.proofs.lemmas.List.{length-map, length-set, length-replicate, get_or-replicate, get_or-set_same, get_or-set_other, get_or_append_left, get_or_default, length-append}
-use Rattle.std.proofs.lemmas.Option.{slice_get-map, slice_get-get_or, slice_get_within, get_or_from_slice_get}
+use Rattle.std.proofs.lemmas.Option.{slice_get-map, slice_get_within, get_or_from_slice_get}
 use Rattle.std.proofs.lemmas.List.Elements.{Contains-append_left, Contains-push, Contains-push_cases}
 use Rattle.std.proofs.lemmas.Map.Keys.{IsDistinct-push}
 use Rattle.std.proofs.lemmas.Map.Steps.{length-le_from_distinct_below}
 use Rattle.std.proofs.lemmas.Map.Views.{Contains-from_any}
-use Rattle.cpg_schema.specs.declared.label.Label.{Label}
 use Rattle.cpg_schema.specs.declared.label.Label.TheVariants.{Method}
 use Rattle.cpg_schema.specs.declared.edge_kind.EdgeKind.TheVariants.{Ast}
 use Rattle.cpg_schema.specs.Graph.{PlainGraph}
 use Rattle.cpg_schema.specs.Fitting.{IsGraph}
-use Rattle.cpg_schema.specs.Shape.{IsAbove, IsShaped}
+use Rattle.cpg_schema.specs.Shape.{IsShaped}
 use Rattle.graph_store.specs.declared.edge.Edge.{Edge}
 use Rattle.graph_parts.specs.declared.places.TheConstants.{NO_NODE}
 use Rattle.graph_parts.specs.declared.walk.Walk.{Walk}
 use Rattle.graph_parts.specs.Finds.{Finds}
 use Rattle.graph_parts.specs.Parts.{IsChild, IsNodeWith, HasLabel}
 use Rattle.graph_parts.specs.Standing.{IsMethodAbove, IsRootOf}
-use Rattle.graph_parts.specs.Places.{Placed, ArePlacesOf}
+use Rattle.graph_parts.specs.Places.{ArePlacesOf}
 use Rattle.graph_parts.specs.Walking.{node_or_none, IsPlace, IsPlaced, IsWalk, GoesOn, HasRoots, HasChildren, HasAll}
 use Rattle.graph_parts.proofs.Tree.{above_in, nearest_down, nearest_up, nearest_here, none_above}
 use Rattle.graph_parts.proofs.Depth.{depth, depth_falls, ends_of, none_distinct, parent_of as parent_found, Parent, one, none}

@@ -1,5 +1,5 @@
 -- Where all nodes of a graph stand (ours), told by one walk.
-use Rattle.std.specs.Prelude.{ℕ, ◌≡◌, ◌<◌, List, Option, Some, length, slice_get}
+use Rattle.std.specs.Prelude.{ℕ, ◌≡◌, List, Option, Some, length, slice_get}
 use Rattle.cpg_schema.specs.Graph.{PlainGraph}
 use Rattle.graph_parts.specs.Finds.{Finds}
 use Rattle.graph_parts.specs.Standing.{IsMethodAbove, IsRootOf}

@@ -64,7 +64,11 @@ impl Places {
         ensures { slice_get self.now.methods node ≡ Some result }
     {
         let method = self.methods[node as usize];
-        if method == NO_NODE { None } else { Some(method) }
+        if method == NO_NODE {
+            None
+        } else {
+            Some(method)
+        }
     }
 
     /// The root of the tree in which a node stands.

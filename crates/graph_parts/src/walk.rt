@@ -76,12 +76,7 @@ impl Walk {
     }
 
     /// Comes to the children of a node to which it has come.
-    fn place_children(
-        &mut self,
-        graph: &Graph,
-        index: &Index,
-        node: u32,
-    ) -> Result<(), AllocError>
+    fn place_children(&mut self, graph: &Graph, index: &Index, node: u32) -> Result<(), AllocError>
         requires shaped { IsShaped (plain graph.now) }
         requires index { IsIndexOf graph.now index.now }
         requires walk { IsWalk (plain graph.now) self.old }

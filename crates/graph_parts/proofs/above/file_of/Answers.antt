@@ -1,4 +1,4 @@
-use Rattle.std.proofs.Common.{◌≡◌, ℕ, sym, subst}
+use Rattle.std.proofs.Common.{ℕ, sym, subst}
 use Rattle.cpg_schema.specs.declared.label.Label.TheVariants.{File}
 use Rattle.graph_store.specs.Stored.{plain}
 use Rattle.graph_parts.specs.Parts.{IsNodeWith, HasLabel}

@@ -1,4 +1,4 @@
-use Rattle.std.proofs.Common.{◌<◌, length, get_or, arith}
+use Rattle.std.proofs.Common.{get_or, arith}
 use Rattle.cpg_schema.specs.declared.edge_kind.EdgeKind.TheVariants.{Ast}
 use Rattle.graph_store.specs.Stored.{plain}
 use Rattle.edge_index.proofs.Counting.{no_edge}

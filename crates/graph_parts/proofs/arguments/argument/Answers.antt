@@ -43,15 +43,15 @@ loop-edge-preserved c =
     let k = c.loop-edge.edge-index in
     none_next (IsArgumentWith graph c.args.i c.args.call) lent k c.loop-edge.invariant c.loop-edge-test.true
     (λ has.
-        elim c.else-has_index.branch [
-          else-has_index-via-then-has_index+else-eq w ↦
-              let found = parent_is graph c.requires.shaped (get_or lent k no_edge).to c.args.call w.parent_of.result w.parent_of.ensures.parent has.is_child in
-              let same = same_found w.parent_of.result c.args.call found in
-              let e = w.eq.ensures in
-              let f = w.if-eq.false in
-              cc
-        | else-has_index-via-else-has_index w ↦ let is = c.has_index.ensures.1 has.is_node in let f = w.if-has_index.false in cc
-        ])
+    elim c.else-has_index.branch [
+      | else-has_index-via-then-has_index+else-eq w ↦
+          let found = parent_is graph c.requires.shaped (get_or lent k no_edge).to c.args.call w.parent_of.result w.parent_of.ensures.parent has.is_child in
+          let same = same_found w.parent_of.result c.args.call found in
+          let e = w.eq.ensures in
+          let f = w.if-eq.false in
+          cc
+      | else-has_index-via-else-has_index w ↦ let is = c.has_index.ensures.1 has.is_node in let f = w.if-has_index.false in cc
+    ])
 
 pub returns-clause-argument : goal.returns-clause-argument
 returns-clause-argument c =

@@ -1,4 +1,3 @@
-use Rattle.std.proofs.Common.{ℕ}
 use Rattle.cpg_schema.specs.declared.edge_kind.EdgeKind.TheVariants.{Ast}
 use Rattle.graph_store.specs.Stored.{plain}
 use Rattle.edge_index.proofs.Counting.{no_edge}

@@ -1,4 +1,3 @@
-use Rattle.std.proofs.Common.{ℕ}
 use Rattle.cpg_schema.specs.Graph.{PlainNode}
 use Rattle.graph_parts.specs.Parts.{IsArgumentWith, IsChildWith, HasLabel, HasOrder}
 use Rattle.graph_parts.proofs.Least.{one_least}

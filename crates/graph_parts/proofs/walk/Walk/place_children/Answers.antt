@@ -50,10 +50,10 @@ loop-edge-init c =
     let root : c.index-root.result.now ≡ slice_index walk.roots.items node = c.index-root.ensures ∙ get_or_default walk.roots.items node c.index-root.result.now 0 in_roots in
     let place : (child : ℕ) → IsChild graph node child → IsPlace graph child c.if-has_label.method c.index-root.result.now =
     elim c.if-has_label.branch [
-      then-has_label w ↦ λ child is.
+      | then-has_label w ↦ λ child is.
           subst (λ (m : ℕ). IsPlace graph child m c.index-root.result.now) (sym w.method-is)
           (under_method graph c.requires.shaped walk c.requires.walk node come c.index-root.result.now root (c.has_label.ensures.0 w.if-has_label.true) real child is)
-    | else-has_label w ↦ λ child is.
+      | else-has_label w ↦ λ child is.
           let method : c.if-has_label.method ≡ slice_index walk.methods.items node = w.method-is ∙ (w.index.ensures ∙ get_or_default walk.methods.items node w.index.result.now 0 in_methods) in
           under_other graph c.requires.shaped walk c.requires.walk node come c.if-has_label.method c.index-root.result.now method root
           (λ has. let is = c.has_label.ensures.1 has in let not = w.if-has_label.false in cc) child is

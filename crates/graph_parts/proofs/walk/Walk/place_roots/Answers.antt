@@ -13,15 +13,15 @@ loop-node-preserved c =
     let node = c.loop-node.node in
     let walk = c.loop-node.invariant.walk_is in
     elim c.if-is_none.branch [
-      then-is_none+in_ok-place w ↦
+      | then-is_none+in_ok-place w ↦
           let top = none_found (λ (parent : ℕ). IsChild graph parent node) c.parent_of.result c.is_none.result c.is_none.ensures w.if-is_none.true c.parent_of.ensures.parent in
           subst (λ (x : Walk). Rooting graph x (node + 1)) (sym w.self-is)
           (rooting_next graph c.loop-node.self w.place.new.self node c.loop-node.invariant (w.in_ok-place.ensures.walk graph walk (root_place graph node top)) w.in_ok-place.ensures.goes_on
           (λ _. w.in_ok-place.ensures.placed))
-    | else-is_none w ↦
+      | else-is_none w ↦
           subst (λ (x : Walk). Rooting graph x (node + 1)) (sym w.self-is)
           (rooting_next graph c.loop-node.self c.loop-node.self node c.loop-node.invariant walk (stays c.loop-node.self)
           (λ top.
-              absurd
-              (some_found (λ (parent : ℕ). IsChild graph parent node) c.parent_of.result c.is_none.result c.is_none.ensures w.if-is_none.false c.parent_of.ensures.parent top)))
+          absurd
+          (some_found (λ (parent : ℕ). IsChild graph parent node) c.parent_of.result c.is_none.result c.is_none.ensures w.if-is_none.false c.parent_of.ensures.parent top)))
     ]
