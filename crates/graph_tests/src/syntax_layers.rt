@@ -171,7 +171,7 @@ const EDGES: [EdgeRow; 16] = [
 ];
 
 /// The pass over a source without functions, and that of `TEXT`.
-fn two_sources(alloc: Global) -> Result<AstPass, Fail> {
+pub(crate) fn two_sources(alloc: Global) -> Result<AstPass, Fail> {
     let nothing = Unit {
         items: List::new(alloc),
     };
