@@ -1,1 +1,3 @@
-mod Example
+pub mod Hanging
+pub mod Facts
+pub mod Shapes

@@ -17,8 +17,9 @@ abbrev pub unit_delta : PlainGraph → ℕ → PlainDelta
 unit_delta graph unit = record {
   nodes = file_node graph unit ∷ namespace_node ∷ map (out_node graph) (parameters graph unit);
   edges =
-      top_edges unit ++ flat_map (member_edges graph) (members graph unit)
-      ++ linked graph 2 (parameters graph unit);
+      top_edges unit
+      ++ (flat_map (member_edges graph) (members graph unit)
+      ++ linked graph 2 (parameters graph unit));
   settings = [];
 }
 

@@ -2,40 +2,43 @@
 use Rattle.std.specs.Prelude.{ℕ, ◌&&◌, ◌==◌, Bool, List, Option, Some, None, codes, filter, length}
 use Rattle.std.specs.Prelude.{slice_get}
 use Rattle.std.specs.List.{range_with_len}
+use Rattle.std.specs.Option.{option_and_then, option_map}
 use Rattle.std.specs.Str.{bytes_eq}
+use Rattle.cpg_schema.specs.declared.key.Key.TheVariants.{Name}
 use Rattle.cpg_schema.specs.declared.label.Label.{Label}
 use Rattle.cpg_schema.specs.declared.label.Label.TheVariants.{Method}
 use Rattle.cpg_schema.specs.Graph.{PlainNode, PlainGraph}
+use Rattle.cpg_schema.specs.Properties.{text_of}
 use Rattle.graph_parts.specs.NodesAbove.{is_labelled, parent_at, root_at}
 
 -- The name `<global>`.
 abbrev pub global_name : List ℕ
 global_name = codes "<global>"
 
--- The node of this number is named `<global>`.
-abbrev pub is_named_global : PlainGraph → ℕ → Bool
-is_named_global graph node = by (slice_get graph.nodes node)
-  where
-    named : Option (List ℕ) → Bool
-    named None = Bool.false
-    named (Some name) = bytes_eq name global_name
+-- The name of the node of this number, and its label.
+abbrev pub name_at : PlainGraph → ℕ → Option (List ℕ)
+name_at graph node = option_and_then (text_of Name) (slice_get graph.nodes node)
 
-    by : Option PlainNode → Bool
-    by None = Bool.false
-    by (Some at) = named at.name
+abbrev pub label_at : PlainGraph → ℕ → Option Label
+label_at graph node = option_map (λ (at : PlainNode). at.label) (slice_get graph.nodes node)
 
--- No AST edge leads to the node.
-abbrev pub is_root : PlainGraph → ℕ → Bool
-is_root graph node = by (parent_at graph node)
-  where
-    by : Option ℕ → Bool
-    by None = Bool.true
-    by (Some parent) = Bool.false
+-- The name is `<global>`.
+abbrev pub is_global_name : Option (List ℕ) → Bool
+is_global_name None = Bool.false
+is_global_name (Some name) = bytes_eq name global_name
+
+-- A METHOD named `<global>`.
+abbrev pub is_global : PlainGraph → ℕ → Bool
+is_global graph node = is_labelled graph Method node && is_global_name (name_at graph node)
+
+-- Nothing is found.
+abbrev pub is_missing : Option ℕ → Bool
+is_missing None = Bool.true
+is_missing (Some number) = Bool.false
 
 -- A unit: a METHOD named `<global>` to which no AST edge leads. It stands for a file.
 abbrev pub is_unit : PlainGraph → ℕ → Bool
-is_unit graph node =
-    is_labelled graph Method node && is_named_global graph node && is_root graph node
+is_unit graph node = is_global graph node && is_missing (parent_at graph node)
 
 -- All numbers of nodes, rising.
 abbrev pub all_nodes : PlainGraph → List ℕ
