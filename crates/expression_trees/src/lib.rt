@@ -1,0 +1,2 @@
+//! T.
+#![tactic(auto)]
