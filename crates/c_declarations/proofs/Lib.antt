@@ -1,0 +1,5 @@
+pub mod DeclarationReadings
+pub mod SpecifiersAreRead
+pub mod DeclaratorsAreRead
+pub mod InitialisersAreRead
+pub mod DeclarationsAreRead
