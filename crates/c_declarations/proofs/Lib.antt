@@ -1,3 +1,5 @@
+pub mod Unions
+pub mod NamesAreRead
 pub mod DeclarationReadings
 pub mod SpecifiersAreRead
 pub mod DeclaratorsAreRead

@@ -331,7 +331,7 @@ module _ (turns level : ℕ) (inner : Inside) where
   unfoldable pub grouped_either : Part Named
   grouped_either =
       pointed_either or name a_name (no_pointers false) or
-          unnamed_core naming.Either (no_pointers false)
+      unnamed_core naming.Either (no_pointers false)
 
   -- ---- In parentheses
 

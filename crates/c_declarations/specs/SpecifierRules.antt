@@ -267,7 +267,7 @@ module _ (turns level : ℕ) (inner : Inside) where
   unfoldable pub untyped_turn : Place → Specified → Part (Turn Specified Specified)
   untyped_turn place specified =
       typedef_name_turn specified or atomic_turn specified or type_turn specified or
-          modifier_turn place specified
+      modifier_turn place specified
 
   unfoldable pub up_to_type : Place → Part Specified
   up_to_type place = repeat turns (untyped_turn place) no_specifiers

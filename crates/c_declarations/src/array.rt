@@ -7,13 +7,13 @@ ghost use Rattle.c_declarations.specs.DeclaratorReaders as spec;
 ghost use Rattle.c_reading.specs.Reads.{Reads};
 ghost use Rattle.c_syntax.specs.Scoping.{input_from};
 
-use crate::forms::{AssignForm, Pointing, Qualified};
+use crate::forms::{Pointing, Qualified, size_form};
 use crate::grammar::{Grammar, Inside};
 use crate::steps::{expect_plain_qualifier, is_at_plain_qualifier, is_at_qualifier};
 use c_lexer::keyword::{KEY_ATOMIC, KEY_STATIC};
 use c_lexer::mark::{MARK_LEFT_BRACKET, MARK_RIGHT_BRACKET, MARK_STAR};
 use c_reading::Stop;
-use c_syntax::Source;
+use c_syntax::{AssignForm, Source};
 use c_tree::{Expr, Pointer, Suffix, two_marks};
 use joern_io::List;
 use std::alloc::Global;
@@ -227,7 +227,7 @@ impl<N: Inside> Grammar<N> {
         if source.is_at_mark(MARK_STAR) {
             self.starred_size(words, left, source)
         } else {
-            self.array_size(AssignForm::unstarred(atomic), words, left, source)
+            self.array_size(size_form(atomic), words, left, source)
         }
     }
 
@@ -247,7 +247,7 @@ impl<N: Inside> Grammar<N> {
         if source.is_at_mark(MARK_RIGHT_BRACKET) {
             self.array_end(words, None, left, source)
         } else {
-            self.array_size(AssignForm::unstarred(atomic), words, left, source)
+            self.array_size(size_form(atomic), words, left, source)
         }
     }
 

@@ -4,7 +4,7 @@ ghost use Rattle.std.specs.Prelude.{◌≡◌, ◌-◌, ◌+◌, [], ◌∷◌, 
 ghost use Rattle.c_declarations.specs.Gives.{Gives, GivesHere};
 ghost use Rattle.c_declarations.specs.DeclarationReaders as spec;
 
-use crate::forms::{AssignForm, Declarators, Named, Place, Pointing, Specified};
+use crate::forms::{Declarators, Named, Place, Pointing, Specified};
 use crate::grammar::{Grammar, Inside};
 use crate::steps::declare;
 use c_lexer::keyword::KEY_STATIC_ASSERT;
@@ -12,7 +12,7 @@ use c_lexer::mark::{
     MARK_COLON, MARK_COMMA, MARK_EQUAL, MARK_LEFT_PAREN, MARK_RIGHT_PAREN, MARK_SEMICOLON,
 };
 use c_reading::Stop;
-use c_syntax::Source;
+use c_syntax::{AssignForm, Source};
 use c_tree::{Declaration, Declarator, Expr, InitDeclarator, Specs, list_of_one};
 use joern_io::{Boxed, List};
 use reading::Turn;

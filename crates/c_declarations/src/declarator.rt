@@ -10,8 +10,8 @@ use crate::array::pointers;
 use crate::forms::{Named, NamedParam, Naming, Params, Place, Pointing, Specified, Word};
 use crate::grammar::{Grammar, Inside};
 use crate::steps::{
-    declare, expect_other_word, expect_word, is_at_abstract, is_at_either, is_at_params,
-    is_at_some_either, is_at_suffix, is_at_unnamed, is_at_word, leave,
+    declare, enter, expect_other_word, expect_word, is_at_abstract, is_at_either, is_at_params,
+    is_at_some_either, is_at_suffix, is_at_unnamed, leave,
 };
 use c_lexer::mark::{
     MARK_COMMA, MARK_ELLIPSIS, MARK_LEFT_BRACKET, MARK_LEFT_PAREN, MARK_RIGHT_PAREN, MARK_STAR,
@@ -169,7 +169,7 @@ impl<N: Inside> Grammar<N> {
         ensures { Gives (λ room inner. spec.params room inner left)
             self.now.room (N.readers self.now.inside) source.old result source.new }
     {
-        source.scopes.enter()?;
+        enter(source)?;
         self.params_inside(left, source)
     }
 
@@ -312,7 +312,7 @@ impl<N: Inside> Grammar<N> {
     {
         if pointing.atomic {
             self.name(pointing, source)
-        } else if is_at_word(source) {
+        } else if source.is_at_any_name() {
             self.name(pointing, source)
         } else {
             self.named_group(pointing, source)
@@ -475,7 +475,7 @@ impl<N: Inside> Grammar<N> {
         ensures { Gives (λ room inner. spec.either_core room inner pointing)
             self.now.room (N.readers self.now.inside) source.old result source.new }
     {
-        if is_at_word(source) {
+        if source.is_at_any_name() {
             self.name(pointing, source)
         } else {
             self.unnamed_core(Naming::Either, pointing, source)

@@ -5,9 +5,9 @@ ghost use Rattle.c_syntax.specs.Scoping.{input_from};
 ghost use Rattle.std.specs.Prelude.{◌≡◌, ◌-◌, ◌+◌};
 ghost use Rattle.c_declarations.specs.DeclarationForms.{undefined};
 
-use crate::forms::{AssignForm, Named, Naming};
+use crate::forms::{Named, Naming};
 use c_reading::Stop;
-use c_syntax::Source;
+use c_syntax::{AssignForm, Source};
 use c_tree::{Assign, Declaration, Declarator, InitDeclarator, InitItem, Param, TypeName};
 use joern_io::List;
 use std::alloc::Global;

@@ -4,7 +4,7 @@ ghost use Rattle.std.specs.Prelude.{◌≡◌, ◌-◌, ◌+◌, [], ◌∷◌};
 ghost use Rattle.c_declarations.specs.Gives.{Gives, GivesHere};
 ghost use Rattle.c_declarations.specs.InitialiserReaders as spec;
 
-use crate::forms::{AssignForm, Items};
+use crate::forms::Items;
 use crate::grammar::{Grammar, Inside};
 use crate::steps::is_at_designator;
 use c_lexer::mark::{
@@ -12,7 +12,7 @@ use c_lexer::mark::{
     MARK_RIGHT_BRACKET,
 };
 use c_reading::Stop;
-use c_syntax::Source;
+use c_syntax::{AssignForm, Source};
 use c_tree::{Designator, Expr, Init, InitItem, list_of_one, two_marks};
 use joern_io::List;
 use reading::Turn;

@@ -7,12 +7,13 @@ mod declarator;
 mod forms;
 mod grammar;
 mod initialiser;
+mod kinds;
 mod specifier;
 mod steps;
 
 pub use forms::{
-    AssignForm, Declarators, Enumerators, Items, Members, Named, NamedEnumerator, NamedParam,
-    Naming, Params, Place, Pointing, Qualified, Specified, Word,
+    Declarators, Enumerators, Items, Members, Named, NamedEnumerator, NamedParam, Naming, Params,
+    Place, Pointing, Qualified, Specified, Word,
 };
 pub use grammar::{Grammar, Inside};
 pub use steps::is_at_specifiers;

@@ -4,19 +4,19 @@ ghost use Rattle.std.specs.Prelude.{◌≡◌, ◌-◌, [], ◌∷◌, Some, Non
 ghost use Rattle.c_declarations.specs.Gives.{Gives};
 ghost use Rattle.c_declarations.specs.SpecifierReaders as spec;
 
-use crate::forms::{AssignForm, Enumerators, Members, NamedEnumerator, Place, Specified, Word};
+use crate::forms::{Enumerators, Members, NamedEnumerator, Place, Specified, Word};
 use crate::grammar::{Grammar, Inside};
 use crate::steps::{
     declare_word, expect_function_specifier, expect_plain_qualifier, expect_record,
     expect_storage_class, expect_word, is_at_function_specifier, is_at_more_specifiers,
-    is_at_record, is_at_specifiers, is_at_storage_class, is_at_type_specifier, is_at_word,
+    is_at_record, is_at_specifiers, is_at_storage_class, is_at_type_specifier,
 };
 use c_lexer::keyword::{KEY_ALIGNAS, KEY_ATOMIC, KEY_ENUM, KEY_REGISTER, KEY_TYPEDEF};
 use c_lexer::mark::{
     MARK_COMMA, MARK_EQUAL, MARK_LEFT_BRACE, MARK_LEFT_PAREN, MARK_RIGHT_BRACE, MARK_RIGHT_PAREN,
 };
 use c_reading::Stop;
-use c_syntax::Source;
+use c_syntax::{AssignForm, Source};
 use c_tree::{Enumerator, Expr, Spec, list_of_one, two_marks};
 use joern_io::{Boxed, List};
 use reading::Turn;
@@ -364,7 +364,7 @@ impl<N: Inside> Grammar<N> {
             self.now.room (N.readers self.now.inside) source.old result source.new }
     {
         let key = expect_record(self.room, source)?;
-        if is_at_word(source) {
+        if source.is_at_any_name() {
             self.tagged_record(key, source)
         } else {
             self.record_with(key, None, source)
@@ -589,7 +589,7 @@ impl<N: Inside> Grammar<N> {
             self.now.room (N.readers self.now.inside) source.old result source.new }
     {
         let key = source.expect_key(KEY_ENUM, self.room)?;
-        if is_at_word(source) {
+        if source.is_at_any_name() {
             self.tagged_enumeration(key, source)
         } else {
             self.enumeration_with(key, None, source)

@@ -1,33 +1,28 @@
 //! Single tokens, names and scopes in the grammar of declarations (C11 6.7).
 
-ghost use Rattle.std.specs.Prelude.{◌≡◌, ◌∷◌, [], Some};
+ghost use Rattle.std.specs.Prelude.{◌≡◌, ◌∷◌, [], Some, Ok};
 ghost use Rattle.c_lexer.specs.declared.mark.TheConstants.{MARK_STAR};
 ghost use Rattle.c_reading.specs.Reads.{Reads};
 ghost use Rattle.c_reading.specs.Terminals.{mark};
-ghost use Rattle.c_scopes.specs.Scopes.{IsInside, Leaves};
-ghost use Rattle.c_syntax.specs.Sets.{a_plain_qualifier, a_record, begins_specifier};
-ghost use Rattle.c_declarations.specs.DeclarationSets.{a_function_specifier};
-ghost use Rattle.c_declarations.specs.DeclarationSets.{a_qualifier, a_storage_class};
-ghost use Rattle.c_declarations.specs.DeclarationSets.{begins_designator, begins_either};
-ghost use Rattle.c_declarations.specs.DeclarationSets.{begins_modifier, begins_params};
-ghost use Rattle.c_declarations.specs.DeclarationSets.{begins_specifiers, begins_suffix};
-ghost use Rattle.c_declarations.specs.DeclarationSets.{begins_unnamed, begins_word};
-ghost use Rattle.c_declarations.specs.DeclarationSteps.{declare as declares};
-ghost use Rattle.c_declarations.specs.DeclarationSteps.{expect_word as expects};
+ghost use Rattle.c_declarations.specs.DeclarationSets as sets;
+ghost use Rattle.c_declarations.specs.DeclarationSets.{a_function_specifier, a_qualifier};
+ghost use Rattle.c_declarations.specs.DeclarationSets.{a_storage_class, begins_designator};
+ghost use Rattle.c_declarations.specs.DeclarationSets.{begins_params, begins_specifiers};
+ghost use Rattle.c_declarations.specs.DeclarationSteps as step;
 ghost use Rattle.c_declarations.specs.declared.forms.Place.TheVariants.{Parameter};
 ghost use Rattle.c_syntax.specs.Scoping.{input_from, terminal_of};
-ghost use Rattle.c_syntax.specs.Sets.{a_name, any_name};
-ghost use Rattle.c_syntax.specs.Steps.{expect_among, take_where};
+ghost use Rattle.c_syntax.specs.Sets.{a_name, any_name, a_plain_qualifier, a_record};
+ghost use Rattle.c_syntax.specs.Sets.{begins_specifier};
+ghost use Rattle.c_syntax.specs.Steps.{expect_among};
 ghost use Rattle.reading.specs.Readers.{is_ahead};
 
 use crate::forms::{Place, Word};
-use c_lexer::Kind;
-use c_lexer::keyword::{
-    KEY_ALIGNAS, KEY_ATOMIC, KEY_AUTO, KEY_CONST, KEY_ENUM, KEY_EXTERN, KEY_INLINE, KEY_NORETURN,
-    KEY_REGISTER, KEY_RESTRICT, KEY_STATIC, KEY_STRUCT, KEY_THREAD_LOCAL, KEY_TYPEDEF, KEY_UNION,
-    KEY_VOLATILE,
+use crate::kinds::{
+    begins_abstract, begins_either, begins_some_either, begins_specifier, begins_suffix,
+    begins_unnamed, begins_word, is_designator, is_function_specifier, is_plain_qualifier,
+    is_qualifier, is_record, is_storage_class,
 };
-use c_lexer::mark::{MARK_DOT, MARK_LEFT_BRACKET, MARK_LEFT_PAREN, MARK_RIGHT_PAREN, MARK_STAR};
+use c_lexer::mark::MARK_RIGHT_PAREN;
 use c_reading::Stop;
 use c_syntax::Source;
 
@@ -38,10 +33,7 @@ pub(crate) fn is_at_storage_class(source: &Source<'_>) -> bool
     ensures { result ≡ is_ahead terminal_of a_storage_class (input_from source.now) }
 {
     match source.cursor.ahead() {
-        Some(kind) => matches!(
-            kind,
-            Kind::Key(KEY_EXTERN | KEY_STATIC | KEY_THREAD_LOCAL | KEY_AUTO | KEY_REGISTER)
-        ),
+        Some(kind) => is_storage_class(kind),
         None => false,
     }
 }
@@ -51,7 +43,7 @@ pub(crate) fn is_at_function_specifier(source: &Source<'_>) -> bool
     ensures { result ≡ is_ahead terminal_of a_function_specifier (input_from source.now) }
 {
     match source.cursor.ahead() {
-        Some(kind) => matches!(kind, Kind::Key(KEY_INLINE | KEY_NORETURN)),
+        Some(kind) => is_function_specifier(kind),
         None => false,
     }
 }
@@ -61,7 +53,7 @@ pub(crate) fn is_at_plain_qualifier(source: &Source<'_>) -> bool
     ensures { result ≡ is_ahead terminal_of a_plain_qualifier (input_from source.now) }
 {
     match source.cursor.ahead() {
-        Some(kind) => matches!(kind, Kind::Key(KEY_CONST | KEY_RESTRICT | KEY_VOLATILE)),
+        Some(kind) => is_plain_qualifier(kind),
         None => false,
     }
 }
@@ -71,10 +63,7 @@ pub(crate) fn is_at_qualifier(source: &Source<'_>) -> bool
     ensures { result ≡ is_ahead terminal_of a_qualifier (input_from source.now) }
 {
     match source.cursor.ahead() {
-        Some(kind) => matches!(
-            kind,
-            Kind::Key(KEY_CONST | KEY_RESTRICT | KEY_VOLATILE | KEY_ATOMIC)
-        ),
+        Some(kind) => is_qualifier(kind),
         None => false,
     }
 }
@@ -84,7 +73,7 @@ pub(crate) fn is_at_record(source: &Source<'_>) -> bool
     ensures { result ≡ is_ahead terminal_of a_record (input_from source.now) }
 {
     match source.cursor.ahead() {
-        Some(kind) => matches!(kind, Kind::Key(KEY_STRUCT | KEY_UNION)),
+        Some(kind) => is_record(kind),
         None => false,
     }
 }
@@ -93,122 +82,105 @@ pub(crate) fn is_at_record(source: &Source<'_>) -> bool
 pub(crate) fn is_at_type_specifier(source: &Source<'_>) -> bool
     ensures { result ≡ is_ahead terminal_of begins_specifier (input_from source.now) }
 {
-    if source.is_at_basic_type() || is_at_record(source) {
-        return true;
-    }
-    source.is_at_key(KEY_ENUM)
-}
-
-/// Whether the next token begins a specifier at the place that is no type specifier, and is not
-/// `_Atomic`.
-fn is_at_modifier(place: Place, source: &Source<'_>) -> bool
-    ensures { result ≡ is_ahead terminal_of (begins_modifier place) (input_from source.now) }
-{
-    if is_at_plain_qualifier(source) {
-        return true;
-    }
-    match place {
-        Place::Ordinary => {
-            source.is_at_key(KEY_TYPEDEF)
-                || is_at_storage_class(source)
-                || is_at_function_specifier(source)
-                || source.is_at_key(KEY_ALIGNAS)
-        }
-        Place::Parameter => {
-            source.is_at_key(KEY_REGISTER)
-                || is_at_function_specifier(source)
-                || source.is_at_key(KEY_ALIGNAS)
-        }
-        Place::Member => source.is_at_key(KEY_ALIGNAS),
-        Place::Nameless => false,
+    match source.cursor.ahead() {
+        Some(kind) => begins_specifier(kind),
+        None => false,
     }
 }
 
 /// Whether the next token begins a further specifier, behind a type specifier.
 pub(crate) fn is_at_more_specifiers(place: Place, source: &Source<'_>) -> bool
-    ensures { result ≡ is_ahead terminal_of (begins_word place) (input_from source.now) }
+    ensures { result ≡ is_ahead terminal_of (sets.begins_word place) (input_from source.now) }
 {
-    source.is_at_key(KEY_ATOMIC) || is_at_type_specifier(source) || is_at_modifier(place, source)
-}
-
-/// Whether the next token begins specifiers.
-pub fn is_at_specifiers(place: Place, source: &Source<'_>) -> bool
-    ensures { result ≡ is_ahead terminal_of (begins_specifiers place) (input_from source.now) }
-{
-    is_at_more_specifiers(place, source) || source.is_at_typedef_name()
-}
-
-/// Whether the next token is a word.
-pub(crate) fn is_at_word(source: &Source<'_>) -> bool
-    ensures { result ≡ is_ahead terminal_of any_name (input_from source.now) }
-{
-    source.is_at_any_name()
+    match source.cursor.ahead() {
+        Some(kind) => begins_word(place, kind),
+        None => false,
+    }
 }
 
 /// Whether the next token begins a suffix of a declarator.
 pub(crate) fn is_at_suffix(source: &Source<'_>) -> bool
-    ensures { result ≡ is_ahead terminal_of begins_suffix (input_from source.now) }
+    ensures { result ≡ is_ahead terminal_of sets.begins_suffix (input_from source.now) }
 {
-    source.is_at_mark(MARK_LEFT_BRACKET) || source.is_at_mark(MARK_LEFT_PAREN)
-}
-
-/// Whether the next token stands first in a parameter list behind its `(`.
-pub(crate) fn is_at_params(source: &Source<'_>) -> bool
-    ensures { result ≡ is_ahead terminal_of begins_params (input_from source.now) }
-{
-    source.is_at_mark(MARK_RIGHT_PAREN) || is_at_specifiers(Place::Parameter, source)
+    match source.cursor.ahead() {
+        Some(kind) => begins_suffix(kind),
+        None => false,
+    }
 }
 
 /// Whether the next token is no name and begins what stands behind pointers, or behind `_Atomic`.
 pub(crate) fn is_at_unnamed(atomic: bool, source: &Source<'_>) -> bool
-    ensures { result ≡ is_ahead terminal_of (begins_unnamed atomic) (input_from source.now) }
+    ensures { result ≡ is_ahead terminal_of (sets.begins_unnamed atomic) (input_from source.now) }
 {
-    source.is_at_mark(MARK_LEFT_BRACKET) || (!atomic && source.is_at_mark(MARK_LEFT_PAREN))
+    match source.cursor.ahead() {
+        Some(kind) => begins_unnamed(atomic, kind),
+        None => false,
+    }
 }
 
 /// The same, or a name.
 pub(crate) fn is_at_either(atomic: bool, source: &Source<'_>) -> bool
-    ensures { result ≡ is_ahead terminal_of (begins_either atomic) (input_from source.now) }
+    ensures { result ≡ is_ahead terminal_of (sets.begins_either atomic) (input_from source.now) }
 {
-    is_at_word(source) || is_at_unnamed(atomic, source)
+    match source.cursor.ahead() {
+        Some(kind) => begins_either(atomic, kind),
+        None => false,
+    }
 }
 
 /// Whether the next token begins a declarator without a name.
 pub(crate) fn is_at_abstract(atomic: bool, source: &Source<'_>) -> bool
-    ensures { result ≡ is_ahead terminal_of (mark MARK_STAR ∷ begins_unnamed atomic)
+    ensures { result ≡ is_ahead terminal_of (mark MARK_STAR ∷ sets.begins_unnamed atomic)
         (input_from source.now) }
 {
-    source.is_at_mark(MARK_STAR) || is_at_unnamed(atomic, source)
+    match source.cursor.ahead() {
+        Some(kind) => begins_abstract(atomic, kind),
+        None => false,
+    }
 }
 
 /// Whether the next token begins a declarator with a name or without.
 pub(crate) fn is_at_some_either(atomic: bool, source: &Source<'_>) -> bool
-    ensures { result ≡ is_ahead terminal_of (mark MARK_STAR ∷ begins_either atomic)
+    ensures { result ≡ is_ahead terminal_of (mark MARK_STAR ∷ sets.begins_either atomic)
         (input_from source.now) }
 {
-    source.is_at_mark(MARK_STAR) || is_at_either(atomic, source)
+    match source.cursor.ahead() {
+        Some(kind) => begins_some_either(atomic, kind),
+        None => false,
+    }
 }
 
 /// Whether the next token begins a designator.
 pub(crate) fn is_at_designator(source: &Source<'_>) -> bool
     ensures { result ≡ is_ahead terminal_of begins_designator (input_from source.now) }
 {
-    source.is_at_mark(MARK_LEFT_BRACKET) || source.is_at_mark(MARK_DOT)
+    match source.cursor.ahead() {
+        Some(kind) => is_designator(kind),
+        None => false,
+    }
+}
+
+/// Whether the next token begins specifiers.
+pub fn is_at_specifiers(place: Place, source: &Source<'_>) -> bool
+    ensures { result ≡ is_ahead terminal_of (begins_specifiers place) (input_from source.now) }
+{
+    if source.is_at_typedef_name() {
+        return true;
+    }
+    is_at_more_specifiers(place, source)
+}
+
+/// Whether the next token stands first in a parameter list behind its `(`.
+pub(crate) fn is_at_params(source: &Source<'_>) -> bool
+    ensures { result ≡ is_ahead terminal_of begins_params (input_from source.now) }
+{
+    if source.is_at_mark(MARK_RIGHT_PAREN) {
+        return true;
+    }
+    is_at_specifiers(Place::Parameter, source)
 }
 
 // ---- What is taken
-
-/// Takes the next token, if it may stand there.
-fn take_if(may_stand: bool, room: usize, source: &mut Source<'_>) -> Result<u32, Stop>
-    ensures { Reads (take_where may_stand room (input_from source.old)) result
-        (input_from source.new) }
-{
-    if may_stand {
-        source.cursor.take(room)
-    } else {
-        Err(source.refusal())
-    }
-}
 
 /// Takes a storage-class specifier other than `typedef`.
 #[tactic(auto, unfolding(reading::specs::Readers::expect))]
@@ -217,7 +189,7 @@ pub(crate) fn expect_storage_class(room: usize, source: &mut Source<'_>) -> Resu
         (input_from source.new) }
 {
     let may_stand = is_at_storage_class(source);
-    take_if(may_stand, room, source)
+    source.take_if(may_stand, room)
 }
 
 /// Takes a function specifier.
@@ -227,7 +199,7 @@ pub(crate) fn expect_function_specifier(room: usize, source: &mut Source<'_>) ->
         (input_from source.new) }
 {
     let may_stand = is_at_function_specifier(source);
-    take_if(may_stand, room, source)
+    source.take_if(may_stand, room)
 }
 
 /// Takes a qualifier other than `_Atomic`.
@@ -237,7 +209,7 @@ pub(crate) fn expect_plain_qualifier(room: usize, source: &mut Source<'_>) -> Re
         (input_from source.new) }
 {
     let may_stand = is_at_plain_qualifier(source);
-    take_if(may_stand, room, source)
+    source.take_if(may_stand, room)
 }
 
 /// Takes `struct` or `union`.
@@ -247,12 +219,12 @@ pub(crate) fn expect_record(room: usize, source: &mut Source<'_>) -> Result<u32,
         (input_from source.new) }
 {
     let may_stand = is_at_record(source);
-    take_if(may_stand, room, source)
+    source.take_if(may_stand, room)
 }
 
 /// Takes a word.
 pub(crate) fn expect_word<'t>(room: usize, source: &mut Source<'t>) -> Result<Word<'t>, Stop>
-    ensures { Reads (expects any_name room (input_from source.old)) result
+    ensures { Reads (step.expect_word any_name room (input_from source.old)) result
         (input_from source.new) }
 {
     let bytes = source.cursor.spelling();
@@ -262,7 +234,7 @@ pub(crate) fn expect_word<'t>(room: usize, source: &mut Source<'t>) -> Result<Wo
 
 /// Takes a word that is no typedef name.
 pub(crate) fn expect_other_word<'t>(room: usize, source: &mut Source<'t>) -> Result<Word<'t>, Stop>
-    ensures { Reads (expects a_name room (input_from source.old)) result
+    ensures { Reads (step.expect_word a_name room (input_from source.old)) result
         (input_from source.new) }
 {
     let bytes = source.cursor.spelling();
@@ -273,12 +245,13 @@ pub(crate) fn expect_other_word<'t>(room: usize, source: &mut Source<'t>) -> Res
 // ---- Scopes
 
 /// Declares a name.
+#[tactic(auto, unfolding(c_reading::specs::Cursors::input_at))]
 pub(crate) fn declare_word(
     word: &Word<'_>,
     typedef: bool,
     source: &mut Source<'_>,
 ) -> Result<(), Stop>
-    ensures { Reads (declares (Some word.now) typedef tt (input_from source.old)) result
+    ensures { Reads (step.declare (Some word.now) typedef tt (input_from source.old)) result
         (input_from source.new) }
 {
     source.scopes.declare(word.bytes, typedef)?;
@@ -291,7 +264,7 @@ pub(crate) fn declare(
     typedef: bool,
     source: &mut Source<'_>,
 ) -> Result<(), Stop>
-    ensures { Reads (declares name.now typedef tt (input_from source.old)) result
+    ensures { Reads (step.declare name.now typedef tt (input_from source.old)) result
         (input_from source.new) }
 {
     match name {
@@ -300,10 +273,19 @@ pub(crate) fn declare(
     }
 }
 
+/// Enters a scope.
+#[tactic(auto, unfolding(c_reading::specs::Cursors::input_at))]
+pub(crate) fn enter(source: &mut Source<'_>) -> Result<(), Stop>
+    ensures { Reads (step.enter (input_from source.old)) result (input_from source.new) }
+{
+    source.scopes.enter()?;
+    Ok(())
+}
+
 /// Leaves the innermost scope.
+#[tactic(auto, unfolding(c_reading::specs::Cursors::input_at))]
 pub(crate) fn leave(source: &mut Source<'_>)
-    requires { IsInside source.old.scopes }
-    ensures { Leaves source.old.scopes source.new.scopes }
+    ensures { step.leave tt (input_from source.old) ≡ Ok (tt, input_from source.new) }
 {
     source.scopes.leave();
 }
