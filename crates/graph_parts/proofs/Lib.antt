@@ -1,0 +1,10 @@
+pub mod Least
+pub mod KindRank
+pub mod Lent
+pub mod Tree
+pub mod Depth
+pub mod Found
+pub mod Parents
+pub mod AboveList
+pub mod Climbs
+pub mod Walks
