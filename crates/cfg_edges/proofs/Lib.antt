@@ -1,0 +1,5 @@
+pub mod Bools
+pub mod Reached
+pub mod Moves
+pub mod Flowing
+pub mod Rising

@@ -1,0 +1,18 @@
+//! Laws of the edges of plans.
+
+ghost use Rattle.std.specs.Prelude.{ℕ, ◌≡◌, ◌<◌, ◌≤◌, List, Some, length};
+ghost use Rattle.cfg_rules.specs.Plan.{Construct};
+ghost use Rattle.cfg_flow.specs.Edges.{AreFlow};
+ghost use Rattle.cfg_edges.specs.Edges.{IsWithin, edges_within};
+
+/// The edges that are computed are those along which control flows.
+pub fn law_edges_are_flow()
+    ensures { (plan : List Construct) (count : ℕ) → IsWithin count plan →
+        AreFlow plan (edges_within count plan) }
+{}
+
+/// A plan has no other edges.
+pub fn law_one_flow()
+    ensures { (plan : List Construct) (one other : List (ℕ × ℕ)) → AreFlow plan one →
+        AreFlow plan other → one ≡ other }
+{}
