@@ -1,7 +1,7 @@
 -- The edges of a plan, as a function (ours).
 use Rattle.std.specs.Prelude.{ℕ, zero, suc, ◌+◌, ◌≡◌, ◌<◌, ◌≤◌, Bool, ◌&&◌, ◌||◌, List, [], ◌∷◌, Some}
 use Rattle.std.specs.Prelude.{if◌then◌else◌, filter, length}
-use Rattle.cfg_rules.specs.Plan.{Construct, end_of}
+use Rattle.cfg_rules.specs.Plan.{Construct, Breaks, Continues, end_of}
 use Rattle.cfg_rules.specs.Walker.{Position, enter, leave, mark_of}
 use Rattle.cfg_edges.specs.Reaching.{reaches}
 use Rattle.cfg_edges.specs.Steps.{Move, all_moves, same_position}
@@ -46,3 +46,5 @@ edges_within count plan =
 pub record IsWithin (count : ℕ) (plan : List Construct) : Type 0 where
   pub constructs : length plan ≤ count
   pub ends : (x end : ℕ) → end_of plan x ≡ Some end → end < count
+  pub breaks : (x a : ℕ) → Breaks plan x a → a < count
+  pub continues : (x a k : ℕ) → Continues plan x a k → a < count
