@@ -1,16 +1,16 @@
 -- The test of flow tells along which pairs control flows.
-use Rattle.std.proofs.Common.{ℕ, ◌≡◌, ◌<◌, ◌≤◌, ◌↔◌, ◌⊎◌, inl, inr, List, [], ◌∷◌, Bool, true, false, cond, Option, Some, None, slice_get, length, refl, sym, ◌∙◌, ap, subst, arith}
-use Rattle.std.specs.Prelude.{◌&&◌, ◌||◌}
+use Rattle.std.proofs.Common.{ℕ, ◌≡◌, ◌<◌, ◌↔◌, ◌⊎◌, inl, inr, List, [], ◌∷◌, Bool, true, false, cond, Option, Some, None, slice_get, length, refl, sym, ◌∙◌, ap, subst, arith}
+use Rattle.std.specs.Prelude.{◌&&◌}
 use Rattle.std.proofs.lemmas.Option.{slice_get_within}
 use Rattle.cfg_rules.specs.Member.{IsIn}
 use Rattle.cfg_rules.specs.Rules.{Tail, entry, out_of, stop, Head, into, mark, jump, finish, exit, arrow}
-use Rattle.cfg_rules.specs.Plan.{Construct, HasArrow, arrows_at, end_of}
-use Rattle.cfg_rules.specs.Walker.{node, gap, Position, enter, leave, mark_of, Step, by_rule, past_gap, by_break, by_continue, IsBetweenMarks, Runs, first, then, Flows}
+use Rattle.cfg_rules.specs.Plan.{Construct, HasArrow, arrows_at}
+use Rattle.cfg_rules.specs.Walker.{gap, Position, enter, leave, mark_of, Step, by_rule, past_gap, by_break, by_continue, IsBetweenMarks, Runs, first, then, Flows}
 use Rattle.cfg_edges.specs.Reaching.{IsReached, here, on, reaches}
 use Rattle.cfg_edges.specs.Steps.{Move, all_moves, same_position}
 use Rattle.cfg_edges.specs.Edges.{is_between, silent_moves, leads, flows, IsWithin}
 use Rattle.cfg_edges.proofs.Bools.{and_both, both_and, or_either, or_left, or_right}
-use Rattle.cfg_edges.proofs.Reached.{TellsSame, reached, reaches_all}
+use Rattle.cfg_edges.proofs.Reached.{reached, reaches_all}
 use Rattle.cfg_edges.proofs.Moves.{IsPast, gap_move, move_of, step_of, tells_position}
 
 between_tells : (p : Position) → is_between p ≡ true → IsBetweenMarks p
@@ -26,11 +26,11 @@ between_told (mark_of x) b = absurd b
 in_silent : (moves : List Move) (s : Move) → IsIn (silent_moves moves) s → IsIn moves s × (is_between s.0 ≡ true)
 unfolding silent_moves IsIn
 in_silent [] s i = absurd i
-in_silent (m ∷ ms) s i = by (is_between m.0) refl i where
-  by : (b : Bool) → is_between m.0 ≡ b → IsIn (cond b (m ∷ silent_moves ms) (silent_moves ms)) s → ((m ≡ s) ⊎ IsIn ms s) × (is_between s.0 ≡ true)
-  by true e (inl f) = (inl f, subst (λ (v : Move). is_between v.0 ≡ true) f e)
-  by true e (inr j) = let rest = in_silent ms s j in (inr rest.0, rest.1)
-  by false e j = let rest = in_silent ms s j in (inr rest.0, rest.1)
+in_silent (m ∷ ms) s i = by (is_between m.0) refl (λ j. in_silent ms s j) i where
+  by : (b : Bool) → is_between m.0 ≡ b → (IsIn (silent_moves ms) s → IsIn ms s × (is_between s.0 ≡ true)) → IsIn (cond b (m ∷ silent_moves ms) (silent_moves ms)) s → ((m ≡ s) ⊎ IsIn ms s) × (is_between s.0 ≡ true)
+  by true e more (inl f) = (inl f, subst (λ (v : Move). is_between v.0 ≡ true) f e)
+  by true e more (inr j) = (inr (more j).0, (more j).1)
+  by false e more j = (inr (more j).0, (more j).1)
 
 to_silent : (moves : List Move) (s : Move) → IsIn moves s → is_between s.0 ≡ true → IsIn (silent_moves moves) s
 unfolding silent_moves IsIn

@@ -3,3 +3,4 @@ pub mod Reached
 pub mod Moves
 pub mod Flowing
 pub mod Rising
+pub mod Leading

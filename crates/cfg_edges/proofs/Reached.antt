@@ -1,5 +1,5 @@
 -- The test of reaching tells what is reached.
-use Rattle.std.proofs.Common.{◌≡◌, ◌⊎◌, inl, inr, Bool, true, List, [], ◌∷◌, refl, sym, ap, subst}
+use Rattle.std.proofs.Common.{◌≡◌, inl, inr, Bool, true, List, [], ◌∷◌, refl, sym, ap, subst}
 use Rattle.std.specs.Prelude.{◌&&◌}
 use Rattle.cfg_rules.specs.Member.{IsIn}
 use Rattle.cfg_edges.specs.Reaching.{IsReached, here, on, reaches}

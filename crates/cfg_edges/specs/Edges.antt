@@ -2,7 +2,7 @@
 use Rattle.std.specs.Prelude.{ℕ, zero, suc, ◌+◌, ◌≡◌, ◌<◌, ◌≤◌, Bool, ◌&&◌, ◌||◌, List, [], ◌∷◌, Some}
 use Rattle.std.specs.Prelude.{if◌then◌else◌, filter, length}
 use Rattle.cfg_rules.specs.Plan.{Construct, Breaks, Continues, end_of}
-use Rattle.cfg_rules.specs.Walker.{Position, enter, leave, mark_of}
+use Rattle.cfg_rules.specs.Walker.{Position, mark_of}
 use Rattle.cfg_edges.specs.Reaching.{reaches}
 use Rattle.cfg_edges.specs.Steps.{Move, all_moves, same_position}
 
