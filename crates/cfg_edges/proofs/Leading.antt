@@ -1,5 +1,5 @@
 -- The flow of a plan, led over to another that is it by other numbers.
-use Rattle.std.proofs.Common.{ℕ, zero, suc, ◌≡◌, ◌+◌, ◌<◌, ◌≤◌, ◌↔◌, ◌⊎◌, inl, inr, List, [], ◌∷◌, Option, Some, None, slice_get, length, refl, sym, ◌∙◌, ap, subst, arith}
+use Rattle.std.proofs.Common.{ℕ, zero, suc, ◌≡◌, ◌<◌, ◌↔◌, ◌⊎◌, inl, inr, List, [], ◌∷◌, Option, Some, None, slice_get, length, refl, sym, ◌∙◌, ap, subst, arith}
 use Rattle.std.proofs.lemmas.Option.{slice_get_within}
 use Rattle.cfg_rules.specs.declared.rule.Rule.{Rule}
 use Rattle.cfg_rules.specs.declared.rule.Rule.TheVariants.{Silent}
@@ -7,7 +7,7 @@ use Rattle.cfg_rules.specs.Member.{IsIn}
 use Rattle.cfg_rules.specs.Rules.{Tail, entry, out_of, stop, Head, into, mark, jump, finish, exit, Arrow, arrow, arrows, body, CanBreak, CanContinue}
 use Rattle.cfg_rules.specs.Plan.{Construct, HasArrow, arrows_at, part, parts_at, flat_part, JumpsTo, JumpsAt, end_of, end_at, Breaks, BreaksAt, Continues, ContinuesAt}
 use Rattle.cfg_rules.specs.Walker.{Place, node, gap, place, place_of, Position, enter, leave, mark_of, tail_position, HeadAt, Step, by_rule, past_gap, by_break, by_continue, IsBetweenMarks, Runs, first, then, Flows}
-use Rattle.cfg_edges.specs.Renumbered.{led, all_led, IsLed, AreLed, SpeaksOf, IsRenumbered, FlowsOver}
+use Rattle.cfg_edges.specs.Renumbered.{led, all_led, IsLed, IsRenumbered, FlowsOver}
 
 -- A position, led over.
 abbrev pub place_led : (ℕ → ℕ) → Place → Place

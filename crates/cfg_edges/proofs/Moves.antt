@@ -217,16 +217,16 @@ unfolding Breaks
 break_step plan x c is s i =
     let which = chosen (can_break c.rule) (moves_from c.breaks (leave (node x))) s i in
     by (in_moves_from c.breaks (leave (node x)) s which.1) (break_tells c.rule which.0) where
-  by : (a : ℕ) × IsIn c.breaks a × (s.0 ≡ mark_of a) × (s.1 ≡ leave (node x)) → CanBreak c.rule → Step plan s.0 s.1
-  by (a, j, from, to) can = by_break x a (subst (λ (o : Option Construct). BreaksAt o a) (sym is) (j, can)) from to
+      by : (a : ℕ) × IsIn c.breaks a × (s.0 ≡ mark_of a) × (s.1 ≡ leave (node x)) → CanBreak c.rule → Step plan s.0 s.1
+      by (a, j, from, to) can = by_break x a (subst (λ (o : Option Construct). BreaksAt o a) (sym is) (j, can)) from to
 
 continue_step : (plan : List Construct) (x : ℕ) (c : Construct) → slice_get plan x ≡ Some c → (s : Move) → IsIn (continue_moves plan x c) s → Step plan s.0 s.1
 unfolding Continues
 continue_step plan x c is s i =
     let which = chosen (can_continue c.rule) (moves_from c.continues (leave (place plan x (body c.rule)))) s i in
     by (in_moves_from c.continues (leave (place plan x (body c.rule))) s which.1) (continue_tells c.rule which.0) where
-  by : (a : ℕ) × IsIn c.continues a × (s.0 ≡ mark_of a) × (s.1 ≡ leave (place plan x (body c.rule))) → CanContinue c.rule → Step plan s.0 s.1
-  by (a, j, from, to) can = by_continue x a (body c.rule) (subst (λ (o : Option Construct). ContinuesAt o a (body c.rule)) (sym is) (j, can, refl)) from to
+      by : (a : ℕ) × IsIn c.continues a × (s.0 ≡ mark_of a) × (s.1 ≡ leave (place plan x (body c.rule))) → CanContinue c.rule → Step plan s.0 s.1
+      by (a, j, from, to) can = by_continue x a (body c.rule) (subst (λ (o : Option Construct). ContinuesAt o a (body c.rule)) (sym is) (j, can, refl)) from to
 
 -- ---- Constructs.
 

@@ -1,5 +1,6 @@
 -- The edges of a plan, as a function (ours).
-use Rattle.std.specs.Prelude.{ℕ, zero, suc, ◌+◌, ◌≡◌, ◌<◌, ◌≤◌, Bool, ◌&&◌, ◌||◌, List, [], ◌∷◌, Some}
+use Rattle.std.specs.Prelude.{ℕ, zero, suc, ◌+◌, ◌≡◌, ◌<◌, ◌≤◌, Bool, ◌&&◌, ◌||◌}
+use Rattle.std.specs.Prelude.{List, [], ◌∷◌, Some}
 use Rattle.std.specs.Prelude.{if◌then◌else◌, filter, length}
 use Rattle.cfg_rules.specs.Plan.{Construct, Breaks, Continues, end_of}
 use Rattle.cfg_rules.specs.Walker.{Position, mark_of}

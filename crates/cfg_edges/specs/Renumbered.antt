@@ -1,5 +1,5 @@
 -- Two plans of which one is the other by other numbers (ours).
-use Rattle.std.specs.Prelude.{ℕ, ◌≡◌, ◌<◌, ◌≤◌, ◌↔◌, ◌⊎◌, List, [], ◌∷◌, Option, Some, None}
+use Rattle.std.specs.Prelude.{ℕ, ◌≡◌, ◌<◌, ◌≤◌, ◌⊎◌, List, [], ◌∷◌, Option, Some, None}
 use Rattle.std.specs.Prelude.{length, slice_get}
 use Rattle.cfg_rules.specs.declared.rule.Rule.TheVariants.{Silent}
 use Rattle.cfg_rules.specs.Member.{IsIn}
