@@ -115,7 +115,7 @@ impl<N: Inner> Grammar<N> {
     }
 
     /// What an operand is where it stands first: a target, or the first of the value.
-    fn target_at(
+    pub(crate) fn target_at(
         &self,
         targets: List<(Prefixed, u32)>,
         operand: Prefixed,
