@@ -1,4 +1,4 @@
-//! Expressions whose type names are the simplest ones: the knot of assignment expressions (C11 6.5.16).
+//! The knot of assignment expressions, with the simplest type names (C11 6.5.16).
 
 ghost use Rattle.std.specs.Prelude.{◌≡◌, ◌-◌};
 ghost use Rattle.c_reading.specs.Reads.{Reads};
