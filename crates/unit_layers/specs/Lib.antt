@@ -1,0 +1,6 @@
+pub mod Units
+pub mod UnitNodes
+pub mod UnitEdges
+pub mod UnitDeltas
+pub mod Chains
+pub mod Adding

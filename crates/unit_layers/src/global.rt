@@ -1,0 +1,52 @@
+//! The METHODs that are named `<global>`, and which of them are units.
+
+ghost use Rattle.std.specs.Prelude.{◌≡◌, ◌<◌, length, IfOk};
+ghost use Rattle.graph_store.specs.Stored.{plain};
+ghost use Rattle.edge_index.specs.Indexed.{IsIndexOf};
+ghost use Rattle.unit_layers.specs.Units.{is_global, is_unit, units};
+
+use cpg_schema::{Key, Label};
+use edge_index::Index;
+use graph_parts::parent_of;
+use graph_store::Graph;
+use std::alloc::{AllocError, Global};
+
+/// The name of the METHOD that stands for a file.
+pub const GLOBAL_NAME: &[u8] = b"<global>";
+
+/// Whether the node is a METHOD named `<global>`.
+pub(crate) fn is_global(graph: &Graph, node: u32) -> bool
+    requires { node < length graph.now.nodes }
+    ensures { result ≡ is_global (plain graph.now) node }
+{
+    if graph.node(node) != Label::Method {
+        return false;
+    }
+    match graph.text(node, Key::Name) {
+        Some(name) => name == GLOBAL_NAME,
+        None => false,
+    }
+}
+
+/// Whether the node is a unit: a METHOD named `<global>` to which no AST edge leads.
+fn is_unit(graph: &Graph, index: &Index, node: u32) -> bool
+    requires index { IsIndexOf graph.now index.now }
+    requires inside { node < length graph.now.nodes }
+    ensures { result ≡ is_unit (plain graph.now) node }
+{
+    is_global(graph, node) && parent_of(graph, index, node).is_none()
+}
+
+/// The units, rising.
+pub(crate) fn units(alloc: Global, graph: &Graph, index: &Index) -> Result<Vec<u32>, AllocError>
+    requires index { IsIndexOf graph.now index.now }
+    ensures { IfOk result (λ units. units.items ≡ units (plain graph.now)) }
+{
+    let mut found = Vec::new(alloc);
+    for node in 0..graph.len() {
+        if is_unit(graph, index, node) {
+            found.push(node)?;
+        }
+    }
+    Ok(found)
+}
