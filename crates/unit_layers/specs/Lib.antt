@@ -4,3 +4,4 @@ pub mod UnitEdges
 pub mod UnitDeltas
 pub mod Chains
 pub mod Adding
+pub mod Ready

@@ -7,7 +7,9 @@ use Rattle.std.specs.Str.{bytes_eq}
 use Rattle.cpg_schema.specs.declared.key.Key.TheVariants.{Name}
 use Rattle.cpg_schema.specs.declared.label.Label.{Label}
 use Rattle.cpg_schema.specs.declared.label.Label.TheVariants.{Method}
-use Rattle.cpg_schema.specs.Graph.{PlainNode, PlainGraph}
+use Rattle.cpg_schema.specs.declared.edge_kind.EdgeKind.TheVariants.{Ast}
+use Rattle.cpg_schema.specs.Names.{kind_rank}
+use Rattle.cpg_schema.specs.Graph.{PlainNode, PlainEdge, PlainGraph}
 use Rattle.cpg_schema.specs.Properties.{text_of}
 use Rattle.graph_parts.specs.NodesAbove.{is_labelled, parent_at, root_at}
 
@@ -30,6 +32,10 @@ is_global_name (Some name) = bytes_eq name global_name
 -- A METHOD named `<global>`.
 abbrev pub is_global : PlainGraph → ℕ → Bool
 is_global graph node = is_labelled graph Method node && is_global_name (name_at graph node)
+
+-- An AST edge to such a METHOD.
+abbrev pub is_inner : PlainGraph → PlainEdge → Bool
+is_inner graph edge = (kind_rank edge.kind == kind_rank Ast) && is_global graph edge.to
 
 -- Nothing is found.
 abbrev pub is_missing : Option ℕ → Bool

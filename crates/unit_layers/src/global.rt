@@ -1,14 +1,16 @@
 //! The METHODs that are named `<global>`, and which of them are units.
 
-ghost use Rattle.std.specs.Prelude.{◌≡◌, ◌<◌, length, IfOk};
+ghost use Rattle.std.specs.Prelude.{◌≡◌, ◌<◌, filter, length, IfOk};
+ghost use Rattle.cpg_schema.specs.Shape.{IsShaped};
 ghost use Rattle.graph_store.specs.Stored.{plain};
 ghost use Rattle.edge_index.specs.Indexed.{IsIndexOf};
-ghost use Rattle.unit_layers.specs.Units.{is_global, is_unit, units};
+ghost use Rattle.unit_layers.specs.Units.{all_nodes, is_global, is_inner, is_unit, units};
 
-use cpg_schema::{Key, Label};
+use cpg_schema::{EdgeKind, Key, Label};
 use edge_index::Index;
 use graph_parts::parent_of;
 use graph_store::Graph;
+use graph_store::laws::law_stored;
 use std::alloc::{AllocError, Global};
 
 /// The name of the METHOD that stands for a file.
@@ -49,4 +51,42 @@ pub(crate) fn units(alloc: Global, graph: &Graph, index: &Index) -> Result<Vec<u
         }
     }
     Ok(found)
+}
+
+/// How many METHODs are named `<global>`.
+fn count_global(graph: &Graph) -> u32
+    ensures { result
+        ≡ length (filter (is_global (plain graph.now)) (all_nodes (plain graph.now))) }
+{
+    let mut count = 0;
+    for node in 0..graph.len() {
+        if is_global(graph, node) {
+            count += 1;
+        }
+    }
+    count
+}
+
+/// How many AST edges lead to one.
+fn count_inner(graph: &Graph) -> u32
+    ensures { result ≡ length (filter (is_inner (plain graph.now)) (plain graph.now).edges) }
+{
+    law_stored(graph);
+    let mut count = 0;
+    for edge in graph.edges() {
+        if edge.kind == EdgeKind::Ast && is_global(graph, edge.to) {
+            count += 1;
+        }
+    }
+    count
+}
+
+/// How many units there are: the METHODs named `<global>` but for those to which an AST edge leads.
+/// To each of these leads one, so they are counted by their edges, in no memory.
+pub(crate) fn count_units(graph: &Graph) -> u32
+    requires { IsShaped (plain graph.now) }
+    ensures { result ≡ length (units (plain graph.now)) }
+{
+    law_stored(graph);
+    count_global(graph) - count_inner(graph)
 }

@@ -2,7 +2,11 @@
 #![tactic(auto)]
 
 mod global;
+mod pass;
+mod ready;
 mod trees;
 mod unit_edges;
+mod unit_nodes;
 
-pub use global::GLOBAL_NAME;
+pub use pass::UnitPass;
+pub use ready::UnitsReady;

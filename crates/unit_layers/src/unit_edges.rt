@@ -113,6 +113,7 @@ fn join_parameter(
     parameter: u32,
     out: u64,
 ) -> Result<(), AllocError>
+    requires shaped { IsShaped (plain graph.now) }
     requires index { IsIndexOf graph.now index.now }
     requires inside { parameter < length graph.now.nodes }
     requires out { out < length delta.old.nodes }
@@ -133,6 +134,7 @@ pub(crate) fn join_parameters(
     index: &Index,
     parameters: &[u32],
 ) -> Result<(), AllocError>
+    requires shaped { IsShaped (plain graph.now) }
     requires index { IsIndexOf graph.now index.now }
     requires inside { All (λ node. node < length graph.now.nodes) parameters.now }
     requires outs { length parameters.now + 2 ≤ length delta.old.nodes }
