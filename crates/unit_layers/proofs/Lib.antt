@@ -2,3 +2,4 @@ pub mod Hanging
 pub mod Facts
 pub mod Shapes
 pub mod Fits
+pub mod Counts

@@ -14,7 +14,7 @@ use graph_store::laws::law_stored;
 use std::alloc::{AllocError, Global};
 
 /// The name of the METHOD that stands for a file.
-pub const GLOBAL_NAME: &[u8] = b"<global>";
+pub(crate) const GLOBAL_NAME: &[u8] = b"<global>";
 
 /// Whether the node is a METHOD named `<global>`.
 pub(crate) fn is_global(graph: &Graph, node: u32) -> bool
