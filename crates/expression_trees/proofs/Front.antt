@@ -126,6 +126,15 @@ module _ (kind_of : ℕ → Option Kind) (bytes_of : ℕ → List ℕ) where
       Adds X before fine → Adds X before good
   adds_to up p = record { adds = λ u start scopes w end kn pre x. let r = p.adds u start scopes w end kn pre x in (r.0, r.1, up end.0 r.0 r.2) }
 
+  -- What is said of the value may want less.
+  pub adds_looser : {A : Type 0} {X : Part A} {before : Open} {fine good : A → Open → Type 0} →
+      ((a : A) (f : Open) → fine a f → (g : Open) × ((k : Said) (ts : List KeptToken) (scopes end : OpenScopes) → AreSaid kind_of bytes_of (f k) ts scopes end →
+          AreSaid kind_of bytes_of (g k) ts scopes end) × good a g) → Adds X before fine → Adds X before good
+  adds_looser up p = record { adds = λ u start scopes w end kn pre x.
+      let r = p.adds u start scopes w end kn pre x in
+      let g = up end.0 r.0 r.2 in
+      (g.0, (λ k v e f. g.1 k ((u ++ tokens_of w) ++ v) start e (r.1 k v e f)), g.2) }
+
   -- ---- Loops
 
   adds_steps : {S : Type 0} {before : Open} (n : ℕ) {step : S → Part S} {good : S → Open → Type 0} →

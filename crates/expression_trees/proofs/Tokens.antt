@@ -5,6 +5,7 @@ use Rattle.std.specs.List.{Contains}
 use Rattle.c_lexer.specs.declared.token.Kind.{Kind}
 use Rattle.c_lexer.specs.declared.token.Kind.TheVariants as k
 use Rattle.c_lexer.specs.declared.keyword.TheConstants.{KEY_SIZEOF, KEY_ALIGNOF}
+use Rattle.c_lexer.specs.declared.mark.TheConstants.{MARK_PLUS_PLUS, MARK_MINUS_MINUS}
 use Rattle.c_scopes.specs.Scopes.{OpenScopes}
 use Rattle.c_tree.specs.declared.symbol.Want.{Want}
 use Rattle.c_tree.specs.declared.symbol.Want.TheVariants as want
@@ -258,6 +259,42 @@ module _ (kind_of : ℕ → Option Kind) (bytes_of : ℕ → List ℕ) where
 
   pub hears_step : (n : ℕ) → Hears kind_of bytes_of a_step n (token n (want.Among slot.Step))
   hears_step n = hears_kind a_step (want.Among slot.Step) n (among_marks steps)
+
+  -- A unary operator, or `++` or `--`, before an operand.
+  unary_is : (t : List ℕ → Bool) (kind : Kind) (bytes : List ℕ) → has a_unary (terminal_where t kind bytes) ≡ true → Fits (want.Among slot.PrefixOp) kind
+  unary_is t kind bytes e = let h = marks_among unary_operators t kind bytes e in inl (h.0, contains_later MARK_PLUS_PLUS h.0 (MARK_MINUS_MINUS ∷ unary_operators) (contains_later MARK_MINUS_MINUS h.0 unary_operators h.1), h.2)
+
+  step_is : (t : List ℕ → Bool) (kind : Kind) (bytes : List ℕ) → has a_step (terminal_where t kind bytes) ≡ true → Fits (want.Among slot.PrefixOp) kind
+  step_is t kind bytes e = let h = marks_among steps t kind bytes e in inl (h.0, of h.0 (contains_cases MARK_PLUS_PLUS h.0 (MARK_MINUS_MINUS ∷ []) h.1), h.2)
+    where
+      of : (n : ℕ) → (MARK_PLUS_PLUS ≡ n) ⊎ Contains (MARK_MINUS_MINUS ∷ []) n → Contains prefix_operators n
+      of n (inl e) = subst (Contains prefix_operators) e (contains_here MARK_PLUS_PLUS (MARK_MINUS_MINUS ∷ unary_operators))
+      of n (inr c) = subst (Contains prefix_operators) (sym (one_of MARK_MINUS_MINUS n c)) (contains_later MARK_PLUS_PLUS MARK_MINUS_MINUS (MARK_MINUS_MINUS ∷ unary_operators) (contains_here MARK_MINUS_MINUS unary_operators))
+
+  pub says_unary : Says kind_of bytes_of a_unary (λ n. token n (want.Among slot.PrefixOp))
+  says_unary = says_kind a_unary (want.Among slot.PrefixOp) unary_is
+
+  pub says_prefix_step : Says kind_of bytes_of a_step (λ n. token n (want.Among slot.PrefixOp))
+  says_prefix_step = says_kind a_step (want.Among slot.PrefixOp) step_is
+
+  -- The kind of the first token is known.
+  pub hears_known : (set : List ℕ) (wanted : Want) (n : ℕ) (kind : Kind) → kind_of n ≡ Some kind → ((t : List ℕ → Bool) (bytes : List ℕ) → has set (terminal_where t kind bytes) ≡ true) →
+      Hears kind_of bytes_of set n (token n wanted)
+  unfolding terminal_in
+  hears_known set wanted n kind e h = record { hears = hears_at set wanted n (λ scopes t same known f.
+      let k : Some t.lexeme.kind ≡ Some kind = sym known.0 ∙ (ap kind_of (sym same) ∙ e) in
+      let is : t.lexeme.kind ≡ kind = cc in
+      subst (λ x. has set (terminal_where (is_typedef_name scopes) x t.lexeme.spelling) ≡ true) (sym is) (h (is_typedef_name scopes) t.lexeme.spelling)) }
+
+  -- What is known of the first token.
+  pub record Seen (n : ℕ) (wanted : Want) : Type 0 where
+    pub kind : Kind
+    pub is : kind_of n ≡ Some kind
+    pub fits : Fits wanted kind
+
+  pub seen : (n : ℕ) (wanted : Want) (k : Said) (ts : List KeptToken) (scopes end : OpenScopes) → AreSaid kind_of bytes_of (token n wanted k) ts scopes end → Seen n wanted
+  seen n wanted k [] scopes end f = absurd f.0
+  seen n wanted k (t ∷ ts) scopes end f = record { kind = t.lexeme.kind; is = ap kind_of f.0.0.0 ∙ f.0.0.2.0; fits = f.0.0.1 }
 
   pub says_binary : Says kind_of bytes_of a_binary (λ n. token n (want.Among slot.BinaryOp))
   says_binary = says_kind a_binary (want.Among slot.BinaryOp) (marks_among binary_operators)
