@@ -258,12 +258,6 @@ module _ (kind_of : ℕ → Option Kind) (bytes_of : ℕ → List ℕ) where
       abbrev Links : Chain → Found → Open → Type 0
       Links c f before = Spins kind_of bytes_of (λ m e. repeat m (lang.link e level (rules e)) c) f before
 
-      links_done : {c : Chain} {f : Found} {before : Open} → Link c (Done f) before → Links c f before
-      links_done p = repeat_done kind_of bytes_of (λ d. lang.link d level (rules d)) p
-
-      links_again : {c r : Chain} {f : Found} {before behind : Open} → Link c (Again r) before → Links r f behind → Links c f (λ k. before (behind k))
-      links_again p q = repeat_again kind_of bytes_of (λ d. lang.link d level (rules d)) p q
-
       operator_back : (c : Chain) (n : ℕ) (kind : Kind) → kind_of n ≡ Some kind → IsMarkAmong unary_operators kind → Link c (Again (with_op c n Cast)) (token n (want.Among slot.PrefixOp))
       unfolding lang.link lang.operator
       operator_back c n kind e g = back_left kind_of bytes_of (back_token kind_of bytes_of (hears_known kind_of bytes_of a_unary (want.Among slot.PrefixOp) n kind e (λ t bytes. among_marks unary_operators t kind bytes g))
@@ -290,7 +284,7 @@ module _ (kind_of : ℕ → Option Kind) (bytes_of : ℕ → List ℕ) where
       aligned_back c n t l r e g = back_right kind_of bytes_of (back_right kind_of bytes_of (back_right kind_of bytes_of (back_left kind_of bytes_of
           (back_token kind_of bytes_of (hears_known kind_of bytes_of (key KEY_ALIGNOF ∷ []) (want.Among slot.SizeKey) n (k.Key KEY_ALIGNOF) e (λ t bytes. is_key KEY_ALIGNOF t (k.Key KEY_ALIGNOF) bytes refl))
           (back_token kind_of bytes_of (hears_mark kind_of bytes_of MARK_LEFT_PAREN l) (back_then kind_of bytes_of (bi.type_name t g)
-          (back_token kind_of bytes_of (hears_mark kind_of bytes_of MARK_RIGHT_PAREN r) (back_pure kind_of bytes_of (Done (Sized (flushed c.mode c.prefixes) (form.SizeType n t (l ∷ r ∷ [])))))))))))
+          (back_token kind_of bytes_of (hears_mark kind_of bytes_of MARK_RIGHT_PAREN r) (back_pure kind_of bytes_of (Done (Sized (flushed c.mode c.prefixes) (form.SizeType n t (l ∷ r ∷ []))))))))))))
 
       typed_back : (c : Chain) (t : TypeName) (l r : ℕ) (x : Turn Chain Found) (behind : Open) → inner.IsTypeName t →
           Back kind_of bytes_of (λ d. lang.typed_at d level (rules d) c t (l ∷ r ∷ []) c.mode) x behind → Link c x (λ k. in_parens t l r (behind k))
@@ -377,9 +371,9 @@ module _ (kind_of : ℕ → Option Kind) (bytes_of : ℕ → List ℕ) where
 
       size_at : (c : Chain) (n : ℕ) (t : TypeName) (l r key : ℕ) → kind_of n ≡ Some (k.Key key) → (KEY_SIZEOF ≡ key) ⊎ Contains (KEY_ALIGNOF ∷ []) key → inner.IsTypeName t →
           Links c (Sized (flushed c.mode c.prefixes) (form.SizeType n t (l ∷ r ∷ []))) (λ k. token n (want.Among slot.SizeKey) (in_parens t l r k))
-      size_at c n t l r key e (inl same) g = links_again (sized_back c n (want.Among slot.SizeKey) (e ∙ ap (λ x. Some (k.Key x)) (sym same)))
-          (links_done (typed_back (with_size c n) t l r _ (λ k. k) g (back_right kind_of bytes_of (back_pure kind_of bytes_of (Done (Sized (flushed c.mode c.prefixes) (form.SizeType n t (l ∷ r ∷ []))))))))
-      size_at c n t l r key e (inr h) g = links_done (aligned_back c n t l r (e ∙ ap (λ x. Some (k.Key x)) (of (contains_cases KEY_ALIGNOF key [] h))) g)
+      size_at c n t l r key e (inl same) g = repeat_again kind_of bytes_of (λ d. lang.link d level (rules d)) (sized_back c n (want.Among slot.SizeKey) (e ∙ ap (λ x. Some (k.Key x)) (sym same)))
+          (repeat_done kind_of bytes_of (λ d. lang.link d level (rules d)) (typed_back (with_size c n) t l r _ (λ k. k) g (back_right kind_of bytes_of (back_pure kind_of bytes_of (Done (Sized (flushed c.mode c.prefixes) (form.SizeType n t (l ∷ r ∷ []))))))))
+      size_at c n t l r key e (inr h) g = repeat_done kind_of bytes_of (λ d. lang.link d level (rules d)) (aligned_back c n t l r (e ∙ ap (λ x. Some (k.Key x)) (of (contains_cases KEY_ALIGNOF key [] h))) g)
         where
           of : (KEY_ALIGNOF ≡ key) ⊎ Contains [] key → key ≡ KEY_ALIGNOF
           of (inl s) = sym s
@@ -389,13 +383,280 @@ module _ (kind_of : ℕ → Option Kind) (bytes_of : ℕ → List ℕ) where
       Finds x c f = Links c (found x (flushed c.mode c.prefixes) f) (λ k. of_base_form kind_of bytes_of f and k)
 
       form_back : (c : Chain) (x : OpenBaseForm) → IsBaseForm kind_of inner x → Finds x c (roll-BaseForm x)
-      form_back c (o.BaseForm-F.BaseForm::Name n) g = subst (Finds (o.BaseForm-F.BaseForm::Name n) c) (sym (form.rolls-Name n)) (links_done (name_back c n))
-      form_back c (o.BaseForm-F.Literal ns) g = subst (Finds (o.BaseForm-F.Literal ns) c) (sym (form.rolls-Literal ns)) (links_done (literal_back c ns g))
+      form_back c (o.BaseForm-F.BaseForm::Name n) g = subst (Finds (o.BaseForm-F.BaseForm::Name n) c) (sym (form.rolls-Name n)) (repeat_done kind_of bytes_of (λ d. lang.link d level (rules d)) (name_back c n))
+      form_back c (o.BaseForm-F.Literal ns) g = subst (Finds (o.BaseForm-F.Literal ns) c) (sym (form.rolls-Literal ns)) (repeat_done kind_of bytes_of (λ d. lang.link d level (rules d)) (literal_back c ns g))
       form_back c (o.BaseForm-F.BaseForm::Group e marks) g = subst (Finds (o.BaseForm-F.BaseForm::Group e marks) c) (sym (form.rolls-Group e marks))
-          (by_two (λ ms. Finds (o.BaseForm-F.BaseForm::Group e marks) c (form.Group e ms)) (λ l r. links_done (grouped_back c e l r g.0)) marks g.1)
+          (by_two (λ ms. Finds (o.BaseForm-F.BaseForm::Group e marks) c (form.Group e ms)) (λ l r. repeat_done kind_of bytes_of (λ d. lang.link d level (rules d)) (grouped_back c e l r g.0)) marks g.1)
       form_back c (o.BaseForm-F.Compound t items marks) g = subst (Finds (o.BaseForm-F.Compound t items marks) c) (sym (form.rolls-Compound t items marks))
-          (links_done (compounds_back c t items marks g.0 (every_of inner.IsItem items g.1) g.2.some g.2.count))
+          (repeat_done kind_of bytes_of (λ d. lang.link d level (rules d)) (compounds_back c t items marks g.0 (every_of inner.IsItem items g.1) g.2.some g.2.count))
       form_back c (o.BaseForm-F.SizeType n t marks) g = subst (Finds (o.BaseForm-F.SizeType n t marks) c) (sym (form.rolls-SizeType n t marks))
           (by_two (λ ms. Finds (o.BaseForm-F.SizeType n t marks) c (form.SizeType n t ms)) (λ l r. spins_same kind_of bytes_of refl (law.size_before kind_of bytes_of n t l r)
-          (spins_look kind_of bytes_of (λ k ts scopes end f. let s = seen kind_of bytes_of n (want.Among slot.SizeKey) _ ts scopes end f in
+          (spins_look kind_of bytes_of (λ k ts scopes end f. let s = seen kind_of bytes_of n (want.Among slot.SizeKey) (in_parens t l r k) ts scopes end f in
           size_at c n t l r s.fits.0 (s.is ∙ ap (λ x. Some x) s.fits.2) (contains_cases KEY_SIZEOF s.fits.0 (KEY_ALIGNOF ∷ []) s.fits.1) g.0))) marks g.1)
+
+      -- ---- Prefixes
+
+      -- The prefixes that are left, and what ends the chain.
+      abbrev Ends : (List Prefix → Found) → Open → Type 0
+      Ends f last = (c : Chain) → Links c (f (flushed c.mode c.prefixes)) last
+
+      abbrev Linked : OpenPrefix → List Prefix → Type 0
+      Linked x ps = TakesUnary kind_of inner x → NoCast ps
+
+      linked_next : (p : Prefix) (ps : List Prefix) → AreLinked kind_of inner (p ∷ ps) → Linked (out-Prefix p) ps
+      linked_next p [] g = λ h. tt
+      linked_next p (q ∷ ps) g = g.0
+
+      linked_rest : (p : Prefix) (ps : List Prefix) → AreLinked kind_of inner (p ∷ ps) → AreLinked kind_of inner ps
+      linked_rest p [] g = tt
+      linked_rest p (q ∷ ps) g = g.1
+
+      abbrev AllowedFirst : Mode → OpenPrefix → Type 0
+      AllowedFirst Cast x = Prim.Unit {0}
+      AllowedFirst Literal x = ¬ IsCast x
+      AllowedFirst (Size n) x = ¬ IsCast x
+
+      allowed_first : (m : Mode) (p : Prefix) (ps : List Prefix) → Allowed m (p ∷ ps) → AllowedFirst m (out-Prefix p)
+      allowed_first Cast p ps g = tt
+      allowed_first Literal p ps g = g
+      allowed_first (Size n) p ps g = g
+
+      module _ (f : List Prefix → Found) (last : Open) (ends : Ends f last) where
+        abbrev Chains : List Prefix → Type 0
+        Chains ps = (c : Chain) → Allowed c.mode ps → Links c (f (flushed c.mode c.prefixes ++ ps)) (λ k. each (of_prefix kind_of bytes_of) ps (last k))
+
+        step_next : (c : Chain) (n : ℕ) (ps : List Prefix) (kind : Kind) → Chains ps → Linked (o.Prefix-F.Op n) ps → kind_of n ≡ Some kind → (m : ℕ) → kind ≡ k.Mark m → (MARK_PLUS_PLUS ≡ m) ⊎ (MARK_MINUS_MINUS ≡ m) → Contains steps m →
+            Links c (f (flushed c.mode c.prefixes ++ prefix.Op n ∷ ps)) (λ k. token n (want.Among slot.PrefixOp) (each (of_prefix kind_of bytes_of) ps (last k)))
+        step_next c n ps kind q l e m g h i = spins_same kind_of bytes_of (ap f (append_assoc (flushed c.mode c.prefixes) (prefix.Op n ∷ []) ps)) (λ k. refl)
+            (repeat_again kind_of bytes_of (λ d. lang.link d level (rules d)) (stepped_back c n kind e (m, i, g)) (q (with_op c n Literal) (l (of h))))
+          where
+            of : (MARK_PLUS_PLUS ≡ m) ⊎ (MARK_MINUS_MINUS ≡ m) → (kind_of n ≡ Some (k.Key KEY_SIZEOF)) ⊎ (kind_of n ≡ Some (k.Mark MARK_PLUS_PLUS)) ⊎ (kind_of n ≡ Some (k.Mark MARK_MINUS_MINUS))
+            of (inl s) = inr (inl (e ∙ ap (λ x. Some x) (g ∙ ap (λ x. k.Mark x) (sym s))))
+            of (inr s) = inr (inr (e ∙ ap (λ x. Some x) (g ∙ ap (λ x. k.Mark x) (sym s))))
+
+        op_next : (c : Chain) (n : ℕ) (ps : List Prefix) (kind : Kind) → Chains ps → Linked (o.Prefix-F.Op n) ps → kind_of n ≡ Some kind → Fits (want.Among slot.PrefixOp) kind →
+            Links c (f (flushed c.mode c.prefixes ++ prefix.Op n ∷ ps)) (λ k. token n (want.Among slot.PrefixOp) (each (of_prefix kind_of bytes_of) ps (last k)))
+        op_next c n ps kind q l e (inr g) = spins_same kind_of bytes_of (ap f (append_assoc (flushed c.mode c.prefixes) (prefix.Op n ∷ []) ps)) (λ k. refl)
+            (repeat_again kind_of bytes_of (λ d. lang.link d level (rules d)) (sized_back c n (want.Among slot.PrefixOp) (e ∙ ap (λ x. Some x) g)) (q (with_size c n) (l (inl (e ∙ ap (λ x. Some x) g)))))
+        op_next c n ps kind q l e (inl (m, h, g)) = of (contains_cases MARK_PLUS_PLUS m (MARK_MINUS_MINUS ∷ unary_operators) h)
+          where
+            Goal : Type 0
+            Goal = Links c (f (flushed c.mode c.prefixes ++ prefix.Op n ∷ ps)) (λ k. token n (want.Among slot.PrefixOp) (each (of_prefix kind_of bytes_of) ps (last k)))
+            later : (MARK_MINUS_MINUS ≡ m) ⊎ Contains unary_operators m → Links c (f (flushed c.mode c.prefixes ++ prefix.Op n ∷ ps)) (λ k. token n (want.Among slot.PrefixOp) (each (of_prefix kind_of bytes_of) ps (last k)))
+            later (inl s) = step_next c n ps kind q l e m g (inr s) (subst (Contains steps) s (contains_later MARK_PLUS_PLUS MARK_MINUS_MINUS (MARK_MINUS_MINUS ∷ []) (contains_here MARK_MINUS_MINUS [])))
+            later (inr u) = spins_same kind_of bytes_of (ap f (append_assoc (flushed c.mode c.prefixes) (prefix.Op n ∷ []) ps)) (λ k. refl)
+                (repeat_again kind_of bytes_of (λ d. lang.link d level (rules d)) (operator_back c n kind e (m, u, g)) (q (with_op c n Cast) tt))
+            of : (MARK_PLUS_PLUS ≡ m) ⊎ Contains (MARK_MINUS_MINUS ∷ unary_operators) m → Links c (f (flushed c.mode c.prefixes ++ prefix.Op n ∷ ps)) (λ k. token n (want.Among slot.PrefixOp) (each (of_prefix kind_of bytes_of) ps (last k)))
+            of (inl s) = step_next c n ps kind q l e m g (inl s) (subst (Contains steps) s (contains_here MARK_PLUS_PLUS (MARK_MINUS_MINUS ∷ [])))
+            of (inr u) = later (contains_cases MARK_MINUS_MINUS m unary_operators u)
+
+        cast_next : (qs : List Prefix) (m : Mode) (t : TypeName) (l r : ℕ) (ps : List Prefix) → Chains ps → AllowedFirst m (o.Prefix-F.Cast t (l ∷ r ∷ [])) → inner.IsTypeName t →
+            Links (record { prefixes = qs; mode = m }) (f (flushed m qs ++ prefix.Cast t (l ∷ r ∷ []) ∷ ps)) (λ k. in_parens t l r (each (of_prefix kind_of bytes_of) ps (last k)))
+        cast_next qs Cast t l r ps q g h = spins_same kind_of bytes_of (ap f (append_assoc qs (prefix.Cast t (l ∷ r ∷ []) ∷ []) ps)) (λ k. refl)
+            (repeat_again kind_of bytes_of (λ d. lang.link d level (rules d)) (typed_back (record { prefixes = qs; mode = Cast }) t l r (Again (with_cast qs t (l ∷ r ∷ []))) (λ k. k) h (back_right kind_of bytes_of (back_pure kind_of bytes_of (Again (with_cast qs t (l ∷ r ∷ []))))))
+            (q (with_cast qs t (l ∷ r ∷ [])) tt))
+        cast_next qs Literal t l r ps q g h = absurd (g tt)
+        cast_next qs (Size n) t l r ps q g h = absurd (g tt)
+
+        abbrev Nexts : Chain → Prefix → List Prefix → Type 0
+        Nexts c p ps = Links c (f (flushed c.mode c.prefixes ++ p ∷ ps)) (λ k. of_prefix kind_of bytes_of p and each (of_prefix kind_of bytes_of) ps (last k))
+
+        prefix_back : (x : OpenPrefix) (ps : List Prefix) → Chains ps → (c : Chain) → AllowedFirst c.mode x → IsPrefix kind_of inner x → Linked x ps → Nexts c (roll-Prefix x) ps
+        prefix_back (o.Prefix-F.Op n) ps q c g h l = subst (λ p. Nexts c p ps) (sym (prefix.rolls-Op n)) (spins_same kind_of bytes_of refl (λ k. law.op_before kind_of bytes_of n (each (of_prefix kind_of bytes_of) ps (last k)))
+            (spins_look kind_of bytes_of (λ k ts scopes end y. let s = seen kind_of bytes_of n (want.Among slot.PrefixOp) (each (of_prefix kind_of bytes_of) ps (last k)) ts scopes end y in op_next c n ps s.kind q l s.is s.fits)))
+        prefix_back (o.Prefix-F.Cast t marks) ps q c g h l = subst (λ p. Nexts c p ps) (sym (prefix.rolls-Cast t marks))
+            (by_two (λ ms. Nexts c (prefix.Cast t ms) ps) (λ a b. spins_same kind_of bytes_of refl (λ k. law.cast_before kind_of bytes_of t a b (each (of_prefix kind_of bytes_of) ps (last k)))
+            (cast_next c.prefixes c.mode t a b ps q (allowed_cast c.mode marks (a ∷ b ∷ []) g) h.0)) marks h.1)
+          where
+            allowed_cast : (m : Mode) (ms ns : List ℕ) → AllowedFirst m (o.Prefix-F.Cast t ms) → AllowedFirst m (o.Prefix-F.Cast t ns)
+            allowed_cast Cast ms ns a = tt
+            allowed_cast Literal ms ns a = a
+            allowed_cast (Size n) ms ns a = a
+
+        chain_back : (ps : List Prefix) → Every (λ p. IsPrefix kind_of inner (out-Prefix p)) ps → AreLinked kind_of inner ps → Chains ps
+        chain_back [] g l c a = spins_same kind_of bytes_of (ap f (sym (append-nil (flushed c.mode c.prefixes)))) (λ k. refl) (ends c)
+        chain_back (p ∷ ps) g l c a = subst (λ x. Nexts c x ps) (roll-out-Prefix p)
+            (prefix_back (out-Prefix p) ps (chain_back ps g.1 (linked_rest p ps l)) c (allowed_first c.mode p ps a) g.0 (linked_next p ps l))
+
+      -- ---- Operands
+
+      finish_back : (x : OpenBaseForm) (ps : List Prefix) (f : BaseForm) (s : List Post) → Every IsSuffix s → (IsSizeOfType x → s ≡ []) →
+          Back kind_of bytes_of (λ d. lang.finished d level (rules d) (found x ps f)) (prefixed_of ps f s) (each (of_post kind_of bytes_of) s)
+      finish_back (o.BaseForm-F.BaseForm::Name n) ps f s g h = back_then kind_of bytes_of (suffixes_back s g) (back_pure kind_of bytes_of (prefixed_of ps f s))
+      finish_back (o.BaseForm-F.Literal ns) ps f s g h = back_then kind_of bytes_of (suffixes_back s g) (back_pure kind_of bytes_of (prefixed_of ps f s))
+      finish_back (o.BaseForm-F.BaseForm::Group e marks) ps f s g h = back_then kind_of bytes_of (suffixes_back s g) (back_pure kind_of bytes_of (prefixed_of ps f s))
+      finish_back (o.BaseForm-F.Compound t items marks) ps f s g h = back_then kind_of bytes_of (suffixes_back s g) (back_pure kind_of bytes_of (prefixed_of ps f s))
+      finish_back (o.BaseForm-F.SizeType n t marks) ps f s g h =
+          subst (λ z. Back kind_of bytes_of (λ d. lang.finished d level (rules d) (Sized ps f)) (prefixed_of ps f z) (each (of_post kind_of bytes_of) z)) (sym (h tt)) (back_pure kind_of bytes_of (prefixed_of ps f []))
+
+      abbrev Prefixes : Prefixed → Type 0
+      Prefixes p = Back kind_of bytes_of (λ d. lang.prefixed d level (rules d)) p (λ k. of_prefixed kind_of bytes_of p and k)
+
+      prefixed_back_at : (ps : List Prefix) (x : OpenBaseForm) (s : List Post) → Every (λ p. IsPrefix kind_of inner (out-Prefix p)) ps → AreLinked kind_of inner ps → IsBaseForm kind_of inner x →
+          Every IsSuffix s → (IsSizeOfType x → s ≡ []) → Prefixes (prefixed_of ps (roll-BaseForm x) s)
+      unfolding lang.prefixed lang.links
+      prefixed_back_at ps x s g l h i j = back_same kind_of bytes_of refl (law.prefixed_before kind_of bytes_of ps (roll-BaseForm x) s)
+          (back_then kind_of bytes_of {before = λ k. each (of_prefix kind_of bytes_of) ps (of_base_form kind_of bytes_of (roll-BaseForm x) and k)}
+          (back_loop kind_of bytes_of (chain_back (λ qs. found x qs (roll-BaseForm x)) (λ k. of_base_form kind_of bytes_of (roll-BaseForm x) and k) (λ c. form_back c x h) ps g l chain_start tt))
+          (finish_back x ps (roll-BaseForm x) s i j))
+
+      pub prefixed_back : (p : Prefixed) → IsPrefixed kind_of inner p → Prefixes p
+      prefixed_back p g = subst (λ (f : BaseForm). Prefixes (prefixed_of p.prefixes f p.base.suffixes)) (roll-out-BaseForm p.base.form)
+          (prefixed_back_at p.prefixes (out-BaseForm p.base.form) p.base.suffixes (every_of (λ q. IsPrefix kind_of inner (out-Prefix q)) p.prefixes g.prefixes) g.linked g.base.form
+          (every_of IsSuffix p.base.suffixes g.base.suffixes) g.base.bare)
+
+      -- ---- Operators (6.5.5 to 6.5.15)
+
+      abbrev AreOperands : List (ℕ × Prefixed) → Type 0
+      AreOperands xs = Every (λ (x : ℕ × Prefixed). IsPrefixed kind_of inner x.1) xs
+
+      operand_back : (done : List (ℕ × Prefixed)) (x : ℕ × Prefixed) → IsPrefixed kind_of inner x.1 →
+          Back kind_of bytes_of (λ d. lang.more_operands d level (rules d) done) (done ++ x ∷ []) (λ k. of_operand kind_of bytes_of x and k)
+      unfolding lang.more_operands
+      operand_back done x g = back_token kind_of bytes_of (hears_binary kind_of bytes_of x.0) (back_then kind_of bytes_of (prefixed_back x.1 g) (back_pure kind_of bytes_of (done ++ x ∷ [])))
+
+      operands_back : (done xs : List (ℕ × Prefixed)) → AreOperands xs → Spins kind_of bytes_of (λ m e. many m (lang.more_operands e level (rules e)) done) (done ++ xs) (each (of_operand kind_of bytes_of) xs)
+      operands_back done [] g = spins_same kind_of bytes_of (sym (append-nil done)) (λ k. refl) (many_stop kind_of bytes_of (λ e. lang.more_operands e level (rules e)) done)
+      operands_back done (x ∷ xs) g = spins_same kind_of bytes_of (append_assoc done (x ∷ []) xs) (λ k. refl)
+          (many_step kind_of bytes_of (λ e. lang.more_operands e level (rules e)) (operand_back done x g.0) (operands_back (done ++ x ∷ []) xs g.1))
+
+      -- Behind its first operand.
+      abbrev rest_said : Binary → Open
+      rest_said b = each (of_operand kind_of bytes_of) (out-Binary b).rest
+
+      binary_rest_back : (p : Prefixed) (xs : List (ℕ × Prefixed)) → AreOperands xs → Back kind_of bytes_of (λ d. lang.binary d level (rules d) p) (binary_of p xs) (each (of_operand kind_of bytes_of) xs)
+      unfolding lang.binary lang.all_operands
+      binary_rest_back p xs g = back_then kind_of bytes_of (back_loop kind_of bytes_of (operands_back [] xs g)) (back_pure kind_of bytes_of (binary_of p xs))
+
+      binary_back : (b : Binary) → IsBinary kind_of inner b → Back kind_of bytes_of (λ d. lang.binary d level (rules d) (out-Binary b).first) b (rest_said b)
+      binary_back b g = back_same kind_of bytes_of (roll-out-Binary b) (λ k. refl) (binary_rest_back (out-Binary b).first (out-Binary b).rest (every_of (λ (x : ℕ × Prefixed). IsPrefixed kind_of inner x.1) (out-Binary b).rest g.rest))
+
+      binary_is : (b : Binary) (k : Said) → of_binary kind_of bytes_of b and k ≡ of_prefixed kind_of bytes_of (out-Binary b).first and rest_said b k
+      binary_is b k = ap (λ (z : Binary). of_binary kind_of bytes_of z and k) (sym (roll-out-Binary b)) ∙ law.binary_before kind_of bytes_of (out-Binary b).first (out-Binary b).rest k
+
+      -- ---- Conditions, each with the operands before its `?`, and what stands behind each
+
+      record Quad : Type 0 where
+        test : Binary
+        value : Expr
+        question : ℕ
+        colon : ℕ
+        right : IsBinary kind_of inner test
+        value_right : IsExpr kind_of inner value
+
+      abbrev arm_in : Quad → Arm
+      arm_in q = arm_of q.test q.value q.question q.colon
+
+      abbrev arms_in : List Quad → List Arm
+      arms_in [] = []
+      arms_in (q ∷ qs) = arm_in q ∷ arms_in qs
+
+      abbrev head_of : List Quad → Binary → Binary
+      head_of [] last = last
+      head_of (q ∷ qs) last = q.test
+
+      abbrev tail_said : List Quad → Binary → Open
+      tail_said [] last k = k
+      tail_said (q ∷ qs) last k = token q.question (want.Mark MARK_QUESTION) (of_expr kind_of bytes_of q.value and token q.colon (want.Mark MARK_COLON)
+          (of_prefixed kind_of bytes_of (out-Binary (head_of qs last)).first and rest_said (head_of qs last) (tail_said qs last k)))
+
+      arms_before : (qs : List Quad) (last : Binary) (k : Said) → each (of_arm kind_of bytes_of) (arms_in qs) (of_binary kind_of bytes_of last and k) ≡ of_binary kind_of bytes_of (head_of qs last) and tail_said qs last k
+      arms_before [] last k = refl
+      arms_before (q ∷ qs) last k =
+          ap (λ (z : Said). of_arm kind_of bytes_of (arm_in q) and z) (arms_before qs last k) ∙
+          (law.arm_before kind_of bytes_of q.test q.value q.question q.colon (of_binary kind_of bytes_of (head_of qs last) and tail_said qs last k) ∙
+          ap (λ (z : Said). of_binary kind_of bytes_of q.test and token q.question (want.Mark MARK_QUESTION) (of_expr kind_of bytes_of q.value and token q.colon (want.Mark MARK_COLON) z)) (binary_is (head_of qs last) (tail_said qs last k)))
+
+      by_quads : (Q : List Arm → Type 0) → ((qs : List Quad) → Q (arms_in qs)) → (arms : List Arm) → Every (IsArm kind_of inner) arms → Q arms
+      by_quads Q q [] g = q []
+      by_quads Q q (a ∷ arms) g = by_quads (λ more. Q (a ∷ more)) (λ qs. subst (λ x. Q (x ∷ arms_in qs)) (roll-out-Arm a)
+          (by_two (λ ms. Q (roll-Arm (record { test = (out-Arm a).test; then = (out-Arm a).then; marks = ms }) ∷ arms_in qs))
+          (λ l r. q (record { test = (out-Arm a).test; value = (out-Arm a).then; question = l; colon = r; right = g.0.test; value_right = g.0.then } ∷ qs)) (out-Arm a).marks g.0.marks)) arms g.1
+
+      head_right : (qs : List Quad) (last : Binary) → IsBinary kind_of inner last → IsBinary kind_of inner (head_of qs last)
+      head_right [] last g = g
+      head_right (q ∷ qs) last g = q.right
+
+      abbrev arms_at : List Arm → Binary → Arms
+      arms_at arms last = record { arms = arms; last = last }
+
+      arm_back : (done : List Arm) (q : Quad) (b : Binary) → IsBinary kind_of inner b → Back kind_of bytes_of (λ d. lang.more_arms d level (rules d) (arms_at done q.test)) (arms_at (done ++ arm_in q ∷ []) b)
+          (λ k. token q.question (want.Mark MARK_QUESTION) (of_expr kind_of bytes_of q.value and token q.colon (want.Mark MARK_COLON) (of_prefixed kind_of bytes_of (out-Binary b).first and rest_said b k)))
+      unfolding lang.more_arms
+      arm_back done q b g = back_token kind_of bytes_of (hears_mark kind_of bytes_of MARK_QUESTION q.question) (back_then kind_of bytes_of (inside q.value q.value_right)
+          (back_token kind_of bytes_of (hears_mark kind_of bytes_of MARK_COLON q.colon) (back_then kind_of bytes_of (prefixed_back (out-Binary b).first g.first)
+          (back_then kind_of bytes_of (binary_back b g) (back_pure kind_of bytes_of (with_arm (arms_at done q.test) q.value (q.question ∷ q.colon ∷ []) b))))))
+
+      arms_back : (done : List Arm) (qs : List Quad) (last : Binary) → IsBinary kind_of inner last →
+          Spins kind_of bytes_of (λ m e. many m (lang.more_arms e level (rules e)) (arms_at done (head_of qs last))) (arms_at (done ++ arms_in qs) last) (tail_said qs last)
+      arms_back done [] last g = spins_same kind_of bytes_of (ap (λ z. arms_at z last) (sym (append-nil done))) (λ k. refl) (many_stop kind_of bytes_of (λ e. lang.more_arms e level (rules e)) (arms_at done last))
+      arms_back done (q ∷ qs) last g = spins_same kind_of bytes_of (ap (λ z. arms_at z last) (append_assoc done (arm_in q ∷ []) (arms_in qs))) (λ k. refl)
+          (many_step kind_of bytes_of (λ e. lang.more_arms e level (rules e)) (arm_back done q (head_of qs last) (head_right qs last g)) (arms_back (done ++ arm_in q ∷ []) qs last g))
+
+      all_arms_back : (qs : List Quad) (last : Binary) → IsBinary kind_of inner last → Back kind_of bytes_of (λ d. lang.all_arms d level (rules d) (arms_start (head_of qs last))) (arms_at (arms_in qs) last) (tail_said qs last)
+      unfolding lang.all_arms
+      all_arms_back qs last g = back_loop kind_of bytes_of (arms_back [] qs last g)
+
+      -- ---- Targets (6.5.16)
+
+      operator_or : (x : OpenPrefix) → ¬ IsCast x → is_operator x ≡ true
+      operator_or (o.Prefix-F.Op n) h = refl
+      operator_or (o.Prefix-F.Cast t ms) h = absurd (h tt)
+
+      no_cast_at : (ps : List Prefix) → ((cast : Prefix) (others : List Prefix) → ps ≡ cast ∷ others → ¬ IsCast (out-Prefix cast)) → no_cast_first ps ≡ true
+      no_cast_at [] h = refl
+      no_cast_at (p ∷ ps) h = operator_or (out-Prefix p) (h p ps refl)
+
+      target_at_back : (done : List (Prefixed × ℕ)) (t : Prefixed × ℕ) (b : Bool) → b ≡ true →
+          Back kind_of bytes_of (λ d. lang.target_at d level (rules d) done t.0 b) (Again (done ++ t ∷ [])) (token t.1 (want.Among slot.AssignOp))
+      unfolding lang.set_target
+      target_at_back done t true e = back_left kind_of bytes_of (back_token kind_of bytes_of (hears_assignment kind_of bytes_of t.1) (back_pure kind_of bytes_of (Again (done ++ t ∷ []))))
+      target_at_back done t false e = never e
+
+      last_at_back : (done : List (Prefixed × ℕ)) (p : Prefixed) (b : Bool) → Back kind_of bytes_of (λ d. lang.target_at d level (rules d) done p b) (Done (begun_of done p)) (λ k. k)
+      last_at_back done p true = back_right kind_of bytes_of (back_pure kind_of bytes_of (Done (begun_of done p)))
+      last_at_back done p false = back_pure kind_of bytes_of (Done (begun_of done p))
+
+      target_back : (done : List (Prefixed × ℕ)) (t : Prefixed × ℕ) → IsTarget kind_of inner t →
+          Back kind_of bytes_of (λ d. lang.target d level (rules d) done) (Again (done ++ t ∷ [])) (λ k. of_target kind_of bytes_of t and k)
+      unfolding lang.target
+      target_back done t g = back_same kind_of bytes_of refl (law.target_before kind_of bytes_of t)
+          (back_then kind_of bytes_of (prefixed_back t.0 g.prefixed) (target_at_back done t (is_target t.0) (no_cast_at t.0.prefixes g.unary)))
+
+      last_back : (done : List (Prefixed × ℕ)) (p : Prefixed) → IsPrefixed kind_of inner p →
+          Back kind_of bytes_of (λ d. lang.target d level (rules d) done) (Done (begun_of done p)) (λ k. of_prefixed kind_of bytes_of p and k)
+      unfolding lang.target
+      last_back done p g = back_then kind_of bytes_of (prefixed_back p g) (last_at_back done p (is_target p))
+
+      more_targets_back : (done ts : List (Prefixed × ℕ)) (p : Prefixed) → Every (IsTarget kind_of inner) ts → IsPrefixed kind_of inner p →
+          Spins kind_of bytes_of (λ m e. repeat m (lang.target e level (rules e)) done) (begun_of (done ++ ts) p) (λ k. each (of_target kind_of bytes_of) ts (of_prefixed kind_of bytes_of p and k))
+      more_targets_back done [] p g h = spins_same kind_of bytes_of (ap (λ z. begun_of z p) (sym (append-nil done))) (λ k. refl) (repeat_done kind_of bytes_of (λ e. lang.target e level (rules e)) (last_back done p h))
+      more_targets_back done (t ∷ ts) p g h = spins_same kind_of bytes_of (ap (λ z. begun_of z p) (append_assoc done (t ∷ []) ts)) (λ k. refl)
+          (repeat_again kind_of bytes_of (λ e. lang.target e level (rules e)) (target_back done t g.0) (more_targets_back (done ++ t ∷ []) ts p g.1 h))
+
+      targets_back : (ts : List (Prefixed × ℕ)) (p : Prefixed) → Every (IsTarget kind_of inner) ts → IsPrefixed kind_of inner p →
+          Back kind_of bytes_of (λ d. lang.targets d level (rules d) []) (begun_of ts p) (λ k. each (of_target kind_of bytes_of) ts (of_prefixed kind_of bytes_of p and k))
+      unfolding lang.targets
+      targets_back ts p g h = back_loop kind_of bytes_of (more_targets_back [] ts p g h)
+
+      -- ---- Assignment expressions (6.5.16)
+
+      abbrev Wholes : Assign → Type 0
+      Wholes a = Back kind_of bytes_of (λ d. lang.whole d level (rules d)) a (λ k. of_assign kind_of bytes_of a and k)
+
+      whole_by : (ts : List (Prefixed × ℕ)) (qs : List Quad) (last : Binary) → Every (IsTarget kind_of inner) ts → IsBinary kind_of inner last → Wholes (assign_of ts (arms_at (arms_in qs) last))
+      unfolding lang.whole lang.rest_of
+      whole_by ts qs last g h =
+          let b = head_of qs last in
+          let right = head_right qs last h in
+          back_same kind_of bytes_of refl
+          (λ k. law.assign_before kind_of bytes_of ts (arms_at (arms_in qs) last) k ∙ ap (each (of_target kind_of bytes_of) ts) (arms_before qs last k ∙ binary_is b (tail_said qs last k)))
+          (back_then kind_of bytes_of {before = λ k. each (of_target kind_of bytes_of) ts (of_prefixed kind_of bytes_of (out-Binary b).first and k)} (targets_back ts (out-Binary b).first g right.first)
+          (back_then kind_of bytes_of (binary_back b right) (back_then kind_of bytes_of (all_arms_back qs last h) (back_pure kind_of bytes_of (assign_of ts (arms_at (arms_in qs) last))))))
+
+      cond_by : (ts : List (Prefixed × ℕ)) (c : Cond) → Every (IsTarget kind_of inner) ts → IsCond kind_of inner c → Wholes (roll-Assign (record { targets = ts; value = c }))
+      cond_by ts c g h = subst (λ x. Wholes (roll-Assign (record { targets = ts; value = x }))) (roll-out-Cond c)
+          (by_quads (λ arms. Wholes (assign_of ts (arms_at arms (out-Cond c).last))) (λ qs. whole_by ts qs (out-Cond c).last g h.last) (out-Cond c).arms (every_of (IsArm kind_of inner) (out-Cond c).arms h.arms))
+
+      pub whole_back : (a : Assign) → IsAssign kind_of inner a → Wholes a
+      whole_back a g = subst Wholes (roll-out-Assign a) (cond_by (out-Assign a).targets (out-Assign a).value (every_of (IsTarget kind_of inner) (out-Assign a).targets g.targets) g.value)
