@@ -1,0 +1,4 @@
+pub mod PartNames
+pub mod PartRules
+pub mod PartReaders
+pub mod ExactParts
