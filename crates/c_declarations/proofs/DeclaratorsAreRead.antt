@@ -1,6 +1,7 @@
 -- Declarators, parameters and type names are read exactly (C11 6.7.6, 6.7.7), a term a rule.
 
 use Rattle.std.proofs.Common.{◌≡◌, inr, ℕ, suc, ◌-◌, ◌<◌, Bool, true, false, List, [], ◌∷◌, ◌++◌, Option, Some, None, refl, arith}
+use Rattle.std.specs.Option.{is_some}
 use Rattle.c_lexer.specs.declared.token.Kind.TheVariants.{Word, Key, Mark}
 use Rattle.c_lexer.specs.declared.keyword.TheConstants.{KEY_ATOMIC, KEY_CONST, KEY_STATIC}
 use Rattle.c_lexer.specs.declared.mark.TheConstants.{MARK_LEFT_BRACKET, MARK_RIGHT_BRACKET, MARK_LEFT_PAREN}
@@ -37,7 +38,7 @@ use Rattle.c_declarations.specs.DeclarationSets.{a_qualifier, begins_specifiers,
 use Rattle.c_declarations.specs.DeclarationSets.{begins_named, begins_unnamed, begins_either, begins_params}
 use Rattle.c_declarations.specs.DeclarationSteps.{with_name}
 use Rattle.c_declarations.specs.DeclarationForms.{no_qualifiers, with_qualifier, no_pointers, with_pointer, named_of, unnamed_of, group_of}
-use Rattle.c_declarations.specs.DeclarationForms.{is_named, size_form, array_of, first_param, with_param, params_to, params_of, named_param, type_name_of}
+use Rattle.c_declarations.specs.DeclarationForms.{size_form, array_of, first_param, with_param, params_to, params_of, named_param, type_name_of}
 use Rattle.c_declarations.specs.Inside.{Inside, InsideReaders}
 use Rattle.c_declarations.specs.DeclaratorRules as lang
 use Rattle.c_declarations.specs.DeclaratorReaders as read
@@ -381,7 +382,7 @@ module _ (tokens : Tokens) {stage : Stage} {level room : ℕ} (fits : HasRoom st
   unfolding lang.group read.group
   group_is_read naming_ pointing left_ =
       read_then (λ a. begins_suffix) (read_given there (ri.group naming_))
-      (λ i. read_token deeper (sample tokens (mark MARK_RIGHT_PAREN ∷ []) (Mark MARK_RIGHT_PAREN) refl refl refl) (λ r. read_map (group_of pointing left_ i r) (λ a. begins_suffix) (all_suffixes_is_read (is_named i.name) []) (λ a. refl))) (λ a. refl) (λ b. refl) (λ a b. refl)
+      (λ i. read_token deeper (sample tokens (mark MARK_RIGHT_PAREN ∷ []) (Mark MARK_RIGHT_PAREN) refl refl refl) (λ r. read_map (group_of pointing left_ i r) (λ a. begins_suffix) (all_suffixes_is_read (is_some i.name) []) (λ a. refl))) (λ a. refl) (λ b. refl) (λ a b. refl)
 
   pub named_group_is_read : {given : Type 0} (pointing : Pointing) → IsRead tokens stage given (λ d. lang.named_group d level (inner d) pointing) (read.named_group room readers pointing) no (mark MARK_LEFT_PAREN ∷ []) (λ a. begins_suffix)
   unfolding lang.named_group read.named_group
@@ -455,9 +456,9 @@ module _ (tokens : Tokens) {stage : Stage} {level room : ℕ} (fits : HasRoom st
   some_abstract_is_read atomic =
       read_either pointed_abstract_is_read (abstract_core_is_read (no_pointers atomic)) (unnamed_and_star atomic)
 
-  pub abstract_is_read : {given : Type 0} (atomic : Bool) → IsRead tokens stage given (λ d. lang.abstract d level (inner d) atomic) (read.abstract room readers atomic) keeping ((mark MARK_STAR ∷ begins_unnamed atomic) ++ []) (λ a. after_abstract)
-  unfolding lang.abstract read.abstract
-  abstract_is_read atomic =
+  pub abstract_declarator_is_read : {given : Type 0} (atomic : Bool) → IsRead tokens stage given (λ d. lang.abstract_declarator d level (inner d) atomic) (read.abstract_declarator room readers atomic) keeping ((mark MARK_STAR ∷ begins_unnamed atomic) ++ []) (λ a. after_abstract)
+  unfolding lang.abstract_declarator read.abstract_declarator
+  abstract_declarator_is_read atomic =
       read_optional (λ a. after_abstract) (unnamed_of (no_pointers atomic) []) (some_abstract_is_read atomic) (λ a. refl) (abstract_goes_on atomic)
 
   -- ---- Declarators with a name or without
@@ -526,4 +527,4 @@ module _ (tokens : Tokens) {stage : Stage} {level room : ℕ} (fits : HasRoom st
   unfolding lang.type_name read.type_name
   type_name_is_read =
       read_then (λ a. after_type_name) (specifiers_is_read tokens fits inner readers ri Nameless)
-      (λ s. read_map (type_name_of s) (λ a. after_type_name) (abstract_is_read s.atomic) (λ a. refl)) type_apart (λ b. refl) (λ s b. type_goes_on_at s.atomic s.words s.typedef)
+      (λ s. read_map (type_name_of s) (λ a. after_type_name) (abstract_declarator_is_read s.atomic) (λ a. refl)) type_apart (λ b. refl) (λ s b. type_goes_on_at s.atomic s.words s.typedef)

@@ -136,10 +136,6 @@ group_of pointing left inside right suffixes = record {
   name = inside.name;
 }
 
-abbrev pub is_named : Option NamedToken → Bool
-is_named None = false
-is_named (Some word) = true
-
 -- The size of an array, where another rule reads those that begin with `*`. Behind `_Atomic` it
 -- does not begin with `(`.
 abbrev pub size_form : Bool → AssignForm

@@ -1,6 +1,7 @@
 -- Readers of declarators, parameters and type names (C11 6.7.6, 6.7.7).
 
 use Rattle.std.specs.Prelude.{ℕ, ◌-◌, Bool, true, false, List, [], ◌∷◌, ◌++◌, Option, Some, None}
+use Rattle.std.specs.Option.{is_some}
 use Rattle.c_lexer.specs.declared.keyword.TheConstants.{KEY_ATOMIC, KEY_STATIC}
 use Rattle.c_lexer.specs.declared.mark.TheConstants.{MARK_LEFT_BRACKET, MARK_RIGHT_BRACKET}
 use Rattle.c_lexer.specs.declared.mark.TheConstants.{MARK_LEFT_PAREN, MARK_RIGHT_PAREN}
@@ -34,7 +35,7 @@ use Rattle.c_declarations.specs.DeclarationSets.{begins_either}
 use Rattle.c_declarations.specs.DeclarationSteps.{expect_word, declare, enter, leave}
 use Rattle.c_declarations.specs.DeclarationForms.{no_qualifiers, with_qualifier, no_pointers}
 use Rattle.c_declarations.specs.DeclarationForms.{with_pointer, named_of, unnamed_of, group_of}
-use Rattle.c_declarations.specs.DeclarationForms.{is_named, size_form, array_of, first_param}
+use Rattle.c_declarations.specs.DeclarationForms.{size_form, array_of, first_param}
 use Rattle.c_declarations.specs.DeclarationForms.{with_param, params_to, params_of, named_param}
 use Rattle.c_declarations.specs.DeclarationForms.{type_name_of}
 use Rattle.c_declarations.specs.Inside.{InsideReaders}
@@ -248,7 +249,7 @@ module _ (room : ℕ) (inner : InsideReaders) where
   group naming pointing left = do
     inside ← inner.group naming
     right ← expect_mark MARK_RIGHT_PAREN (room - 1)
-    suffixes ← all_suffixes (is_named inside.name) []
+    suffixes ← all_suffixes (is_some inside.name) []
     pure (group_of pointing left inside right suffixes)
 
   unfoldable pub named_group : Pointing → PartReader Named
@@ -314,8 +315,8 @@ module _ (room : ℕ) (inner : InsideReaders) where
   some_abstract atomic =
       where_mark MARK_STAR pointed_abstract (unnamed_core naming.Abstract (no_pointers atomic))
 
-  unfoldable pub abstract : Bool → PartReader Named
-  abstract atomic =
+  unfoldable pub abstract_declarator : Bool → PartReader Named
+  abstract_declarator atomic =
       where_among (mark MARK_STAR ∷ begins_unnamed atomic) (some_abstract atomic)
       (pure (unnamed_of (no_pointers atomic) []))
 
@@ -370,5 +371,5 @@ module _ (room : ℕ) (inner : InsideReaders) where
   unfoldable pub type_name : PartReader TypeName
   type_name = do
     specified ← specifiers room inner Nameless
-    declared ← abstract specified.atomic
+    declared ← abstract_declarator specified.atomic
     pure (type_name_of specified declared)

@@ -1,6 +1,7 @@
 -- Rules of declarators, parameters and type names (C11 6.7.6, 6.7.7).
 
 use Rattle.std.specs.Prelude.{ℕ, suc, Bool, true, false, List, [], ◌∷◌, ◌++◌, Option, Some, None}
+use Rattle.std.specs.Option.{is_some}
 use Rattle.c_lexer.specs.declared.keyword.TheConstants.{KEY_ATOMIC, KEY_STATIC}
 use Rattle.c_lexer.specs.declared.mark.TheConstants.{MARK_LEFT_BRACKET, MARK_RIGHT_BRACKET}
 use Rattle.c_lexer.specs.declared.mark.TheConstants.{MARK_LEFT_PAREN, MARK_RIGHT_PAREN}
@@ -29,7 +30,7 @@ use Rattle.c_syntax.specs.Sets.{a_plain_qualifier}
 use Rattle.c_declarations.specs.DeclarationSteps.{one_word, declaring, entering, leaving}
 use Rattle.c_declarations.specs.DeclarationForms.{no_qualifiers, with_qualifier, no_pointers}
 use Rattle.c_declarations.specs.DeclarationForms.{with_pointer, named_of, unnamed_of, group_of}
-use Rattle.c_declarations.specs.DeclarationForms.{is_named, size_form, array_of, first_param}
+use Rattle.c_declarations.specs.DeclarationForms.{size_form, array_of, first_param}
 use Rattle.c_declarations.specs.DeclarationForms.{with_param, params_to, params_of, named_param}
 use Rattle.c_declarations.specs.DeclarationForms.{type_name_of}
 use Rattle.c_declarations.specs.Inside.{Inside}
@@ -240,7 +241,7 @@ module _ (turns level : ℕ) (inner : Inside) where
   group naming pointing left = do
     inside ← inner.group naming
     right ← one_mark MARK_RIGHT_PAREN (suc level)
-    suffixes ← all_suffixes (is_named inside.name) []
+    suffixes ← all_suffixes (is_some inside.name) []
     pure (group_of pointing left inside right suffixes)
 
   unfoldable pub named_group : Pointing → Part Named
@@ -305,8 +306,8 @@ module _ (turns level : ℕ) (inner : Inside) where
   some_abstract atomic =
       pointed_abstract or unnamed_core naming.Abstract (no_pointers atomic)
 
-  unfoldable pub abstract : Bool → Part Named
-  abstract atomic =
+  unfoldable pub abstract_declarator : Bool → Part Named
+  abstract_declarator atomic =
       some_abstract atomic or pure (unnamed_of (no_pointers atomic) [])
 
   -- ---- Declarators with a name or without (6.7.6.3)
@@ -357,5 +358,5 @@ module _ (turns level : ℕ) (inner : Inside) where
   unfoldable pub type_name : Part TypeName
   type_name = do
     specified ← specifiers turns level inner Nameless
-    declared ← abstract specified.atomic
+    declared ← abstract_declarator specified.atomic
     pure (type_name_of specified declared)

@@ -18,6 +18,34 @@ use c_tree::{Expr, Pointer, Suffix, two_marks};
 use joern_io::List;
 use std::alloc::Global;
 
+/// A qualifier other than `_Atomic`.
+#[tactic(auto, unfolding(crate::specs::DeclaratorReaders::plain_qualifier))]
+fn plain_qualifier(
+    qualified: Qualified,
+    room: usize,
+    source: &mut Source<'_>,
+) -> Result<Qualified, Stop>
+    ensures { Reads (spec.plain_qualifier room qualified (input_from source.old)) result
+        (input_from source.new) }
+{
+    let key = expect_plain_qualifier(room, source)?;
+    Ok(qualified.with(key, false)?)
+}
+
+/// `_Atomic` as a qualifier.
+#[tactic(auto, unfolding(crate::specs::DeclaratorReaders::atomic_qualifier))]
+fn atomic_qualifier(
+    qualified: Qualified,
+    room: usize,
+    source: &mut Source<'_>,
+) -> Result<Qualified, Stop>
+    ensures { Reads (spec.atomic_qualifier room qualified (input_from source.old)) result
+        (input_from source.new) }
+{
+    let key = source.expect_key(KEY_ATOMIC, room)?;
+    Ok(qualified.with(key, true)?)
+}
+
 /// A qualifier.
 #[tactic(auto, unfolding(crate::specs::DeclaratorReaders::qualifier))]
 fn qualifier(qualified: Qualified, room: usize, source: &mut Source<'_>) -> Result<Qualified, Stop>
@@ -25,11 +53,9 @@ fn qualifier(qualified: Qualified, room: usize, source: &mut Source<'_>) -> Resu
         (input_from source.new) }
 {
     if is_at_plain_qualifier(source) {
-        let key = expect_plain_qualifier(room, source)?;
-        Ok(qualified.with(key, false)?)
+        plain_qualifier(qualified, room, source)
     } else {
-        let key = source.expect_key(KEY_ATOMIC, room)?;
-        Ok(qualified.with(key, true)?)
+        atomic_qualifier(qualified, room, source)
     }
 }
 

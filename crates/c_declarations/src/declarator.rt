@@ -454,7 +454,7 @@ impl<N: Inside> Grammar<N> {
         source: &mut Source<'t>,
     ) -> Result<Named<'t>, Stop>
         requires { N.can_read self.now.inside self.now.room }
-        ensures { Gives (λ room inner. spec.abstract room inner atomic)
+        ensures { Gives (λ room inner. spec.abstract_declarator room inner atomic)
             self.now.room (N.readers self.now.inside) source.old result source.new }
     {
         if is_at_abstract(atomic, source) {

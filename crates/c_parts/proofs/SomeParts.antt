@@ -104,7 +104,7 @@ module _ (tokens : Tokens) (level : ℕ) (scopes : OpenScopes) where
     int_type = type_name_of int_only (unnamed_of (no_pointers false) [])
 
     type_name_is : declarator.type_name (suc k) level inside scopes ints (int_type, scopes)
-    unfolding declarator.type_name declarator.abstract
+    unfolding declarator.type_name declarator.abstract_declarator
     type_name_is = record {
       front = ints;
       back = [];

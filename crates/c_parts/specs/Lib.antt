@@ -1,3 +1,4 @@
+pub mod Ties
 pub mod PartNames
 pub mod PartRules
 pub mod PartReaders
