@@ -1,0 +1,3 @@
+pub mod Apart
+pub mod BySecond
+pub mod Otherwise

@@ -1,0 +1,6 @@
+pub mod Choices
+pub mod StatementSets
+pub mod Below
+pub mod StatementForms
+pub mod StatementRules
+pub mod StatementReaders
