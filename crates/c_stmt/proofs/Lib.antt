@@ -1,3 +1,6 @@
 pub mod Apart
 pub mod BySecond
 pub mod Otherwise
+pub mod StatementReadings
+pub mod StatementsAreRead
+pub mod WholeStatements

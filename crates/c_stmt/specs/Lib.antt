@@ -4,3 +4,4 @@ pub mod Below
 pub mod StatementForms
 pub mod StatementRules
 pub mod StatementReaders
+pub mod Statements

@@ -39,10 +39,14 @@ use Rattle.c_stmt.specs.StatementForms.{no_items, with_item, block_of, arm_of, f
 use Rattle.c_stmt.specs.StatementForms.{arms_to, without_else, with_else, switch_of, while_of, do_of}
 use Rattle.c_stmt.specs.StatementForms.{maybe_expr, for_head, for_of}
 
+-- A scope begins.
+abbrev pub enter : PartReader (Prim.Unit {0})
+enter = changes entered tt
+
 -- A part in a scope of its own (6.2.1p4).
 abbrev pub in_scope : {A : Type 0} → PartReader A → PartReader A
 in_scope X = do
-  begun ← changes entered tt
+  begun ← enter
   value ← X
   changes left value
 

@@ -38,10 +38,14 @@ use Rattle.c_stmt.specs.StatementForms.{no_items, with_item, block_of, arm_of, f
 use Rattle.c_stmt.specs.StatementForms.{arms_to, without_else, with_else, switch_of, while_of, do_of}
 use Rattle.c_stmt.specs.StatementForms.{maybe_expr, for_head, for_of}
 
+-- A scope begins.
+abbrev pub entering : Part (Prim.Unit {0})
+entering = changes entered tt
+
 -- A part in a scope of its own (6.2.1p4).
 abbrev pub in_scope : {A : Type 0} → Part A → Part A
 in_scope X = do
-  begun ← changes entered tt
+  begun ← entering
   value ← X
   changes left value
 
