@@ -595,6 +595,13 @@ module _ (tokens : Tokens) (below : Below) (below_readers : BelowReaders) (rb : 
 
   -- ---- Items of blocks (6.8.2)
 
+  behind_turn : (d : ℕ) → Covers stage d → (scopes : OpenScopes) (w : Word') (end : Label') (t : KeptToken) (vs : List KeptToken) →
+      lang.turn below d level (inner d) [] scopes w end → tokens_of w ≡ t ∷ vs → has a_typedef_name (terminal_of scopes t) ≡ true → begins (IsColon scopes) vs ≡ true
+  unfolding lang.turn
+  behind_turn d h scopes w end t vs (inl x) e n = behind_label d [] scopes w end t vs x e
+  behind_turn d h scopes w end t vs (inr x) e n =
+      absurd (disjoint begins_other a_typedef_name refl (terminal_of scopes t) (head_fits ((other_turn_is_read {given = Prim.Unit {0}} []).predictive d h scopes) w end t vs e x) n)
+
   behind_turns : (n d : ℕ) → Covers stage d → (scopes : OpenScopes) (w : Word') (end : Ended × OpenScopes) (t : KeptToken) (vs : List KeptToken) →
       repeat n (lang.turn below d level (inner d)) [] scopes w end → tokens_of w ≡ t ∷ vs → has a_typedef_name (terminal_of scopes t) ≡ true → begins (IsColon scopes) vs ≡ true
   unfolding repeat
@@ -603,13 +610,6 @@ module _ (tokens : Tokens) (below : Below) (below_readers : BelowReaders) (rb : 
       behind_front (IsColon scopes) x.front x.back w t vs x.split e
       (λ f. never (((turn_is_read {given = Prim.Unit {0}} []).predictive d h scopes).nullable x.value (subst (λ r. lang.turn below d level (inner d) [] scopes r x.value) f x.begin)))
       (λ us g. behind_turn d h scopes x.front x.value t us x.begin g n)
-    where
-      behind_turn : (d : ℕ) → Covers stage d → (scopes : OpenScopes) (w : Word') (end : Label') (t : KeptToken) (vs : List KeptToken) →
-          lang.turn below d level (inner d) [] scopes w end → tokens_of w ≡ t ∷ vs → has a_typedef_name (terminal_of scopes t) ≡ true → begins (IsColon scopes) vs ≡ true
-      unfolding lang.turn
-      behind_turn d h scopes w end t vs (inl x) e n = behind_label d [] scopes w end t vs x e
-      behind_turn d h scopes w end t vs (inr x) e n =
-          absurd (disjoint begins_other a_typedef_name refl (terminal_of scopes t) (head_fits ((other_turn_is_read {given = Prim.Unit {0}} []).predictive d h scopes) w end t vs e x) n)
 
   else_within : (b : Bool) → is_within (else_if b) an_else ≡ true
   else_within true = refl

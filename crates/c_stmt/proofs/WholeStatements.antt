@@ -40,21 +40,21 @@ module _ (tokens : Tokens) (below : Below) (readers : BelowReaders) (rb : BelowA
   abbrev null : (level : ℕ) (scopes : OpenScopes) → Ending tokens.IsToken (λ d. lang.turn below d level (deeper level d) []) scopes
   null level scopes = turn_ends tokens below level (deeper level) [] scopes
 
-  one_statement : (k level : ℕ) (scopes : OpenScopes) →
+  one_statement : (k level : ℕ) (scopes : OpenScopes) → (null level scopes).turns ≤ suc k →
       lang.statement below (suc k) level (deeper level (suc k)) scopes (null level scopes).word ((null level scopes).value, (null level scopes).scope')
   unfolding lang.statement
-  one_statement k level scopes =
-      ends k (lang.turn below (suc k) level (deeper level (suc k))) [] scopes (null level scopes).scope' (null level scopes).word (null level scopes).value ((null level scopes).is (suc k) (omega arith))
+  one_statement k level scopes h =
+      ends k (lang.turn below (suc k) level (deeper level (suc k))) [] scopes (null level scopes).scope' (null level scopes).word (null level scopes).value ((null level scopes).is (suc k) h)
 
-  one_item : (k level : ℕ) (scopes : OpenScopes) →
+  one_item : (k level : ℕ) (scopes : OpenScopes) → (null level scopes).turns ≤ suc k →
       lang.item below (suc k) level (deeper level (suc k)) scopes (null level scopes).word (item_.Do (null level scopes).value.stmt, (null level scopes).scope')
   unfolding lang.item lang.statement_item
-  one_item k level scopes = inl (record {
+  one_item k level scopes h = inl (record {
     front = (null level scopes).word;
     back = [];
     value = ((null level scopes).value, (null level scopes).scope');
     split = sym (append-nil (null level scopes).word);
-    begin = one_statement k level scopes;
+    begin = one_statement k level scopes h;
     rest = record { none = refl; same = refl };
   })
 
@@ -62,19 +62,19 @@ module _ (tokens : Tokens) (below : Below) (readers : BelowReaders) (rb : BelowA
   null_of items level scopes = item_.Do (null level scopes).value.stmt
   null_of statements level scopes = (null level scopes).value
 
-  some_at : (n : Name) (more level : ℕ) (scopes : OpenScopes) → 2 ≤ more →
+  some_at : (n : Name) (more level : ℕ) (scopes : OpenScopes) → 2 + (null level scopes).turns ≤ more →
       nested (rule_of below) more level n scopes (null level scopes).word (null_of n level scopes, (null level scopes).scope')
   unfolding nested
   some_at n zero level scopes h = absurd (omega arith)
   some_at n (suc zero) level scopes h = absurd (omega arith)
-  some_at items (suc (suc k)) level scopes h = one_item k level scopes
-  some_at statements (suc (suc k)) level scopes h = one_statement k level scopes
+  some_at items (suc (suc k)) level scopes h = one_item k level scopes (omega arith)
+  some_at statements (suc (suc k)) level scopes h = one_statement k level scopes (omega arith)
 
   some : (n : Name) (level : ℕ) (scopes : OpenScopes) → Some tokens.IsToken (λ d. nested (rule_of below) d level n scopes)
   some n level scopes = record {
     word = (null level scopes).word;
     value = (null_of n level scopes, (null level scopes).scope');
-    turns = 2;
+    turns = 2 + (null level scopes).turns;
     lexemes = (null level scopes).lexemes;
     is = λ more h. some_at n more level scopes h;
   }

@@ -1,0 +1,4 @@
+pub mod Later
+pub mod Heads
+pub mod UnitRules
+pub mod UnitReaders
