@@ -1,0 +1,4 @@
+pub mod Reaching
+pub mod Steps
+pub mod Edges
+pub mod Renumbered
