@@ -64,7 +64,7 @@ const NAME: Drawn = (Rule::Primary, &[]);
 
 const UNWALKED: Drawn = (Rule::Silent, &[]);
 
-const FUNCTIONS: [Sketch; 6] = [
+const FUNCTIONS: [Sketch; 8] = [
     // `void g(void) { r = a && b || c ? d : e; }`.
     Sketch {
         shows: "the second operand of a logical operator is not always evaluated",
@@ -266,6 +266,67 @@ const FUNCTIONS: [Sketch; 6] = [
             (11, 13),
             (13, 9),
         ],
+    },
+    // `int f(int n) { int a; if (n) ; for (a = 0;;) { break; } while (n) ; return a; }`.
+    Sketch {
+        shows: "what is left out is passed, and so is a declaration",
+        rows: &[
+            UNWALKED,
+            UNWALKED,
+            (Rule::Method, &[Some(4)]),
+            UNWALKED,
+            (
+                Rule::Block,
+                &[Some(5), Some(6), Some(8), Some(14), Some(16)],
+            ),
+            UNWALKED,
+            (Rule::If, &[Some(7), None, None]),
+            NAME,
+            (Rule::Endless, &[Some(9), None, None, Some(12)]),
+            (Rule::Call, &[Some(10), Some(11)]),
+            NAME,
+            NAME,
+            (Rule::Block, &[Some(13)]),
+            (Rule::Break, &[]),
+            (Rule::While, &[Some(15), None]),
+            NAME,
+            (Rule::Return, &[Some(17)]),
+            NAME,
+        ],
+        end: 18,
+        targets: &[],
+        breaks: &[(8, 13)],
+        continues: &[],
+        edges: &[
+            (2, 7),
+            (7, 10),
+            (9, 13),
+            (10, 11),
+            (11, 9),
+            (13, 15),
+            (15, 15),
+            (15, 17),
+            (16, 18),
+            (17, 16),
+        ],
+    },
+    // `int x; void f(void) { x; }`, as the function of the file.
+    Sketch {
+        shows: "a function in a block is passed",
+        rows: &[
+            (Rule::Method, &[Some(1)]),
+            (Rule::Block, &[Some(2), Some(3)]),
+            UNWALKED,
+            UNWALKED,
+            UNWALKED,
+            UNWALKED,
+            UNWALKED,
+        ],
+        end: 7,
+        targets: &[],
+        breaks: &[],
+        continues: &[],
+        edges: &[(0, 7)],
     },
 ];
 
