@@ -59,10 +59,19 @@ module _ (edges : List PlainEdge) where
   joined a b c (inr up) (inl same) = inr (subst (λ (k : ℕ). IsAbove edges a k) same up)
   joined a b c (inr up) (inr more) = inr (trans a b c up more)
 
+  -- what stands above a node leads to it
+  record Led (node : ℕ) : Type 0 where
+    position : ℕ
+    parent : ℕ
+    at : IsAstEdgeAt edges position parent node
+
+  led : (ancestor node : ℕ) → IsAbove edges ancestor node → Led node
+  led ancestor _ (child_of position node at) = record { position = position; parent = ancestor; at = at }
+  led ancestor _ (descendant position parent node up at) = record { position = position; parent = parent; at = at }
+
   -- nothing is above a top, and nothing is below a bare node
   pub none_above_top : (ancestor node : ℕ) → IsTop edges node → ¬ IsAbove edges ancestor node
-  none_above_top ancestor _ top (child_of position node at) = top.none position ancestor at
-  none_above_top ancestor _ top (descendant position parent node up at) = top.none position parent at
+  none_above_top ancestor node top up = let l = led ancestor node up in top.none l.position l.parent l.at
 
   pub none_below_bare : (node below : ℕ) → IsBare edges node → ¬ IsAbove edges node below
   none_below_bare node _ bare (child_of position below at) = bare.low position below at
