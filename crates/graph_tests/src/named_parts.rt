@@ -123,7 +123,8 @@ fn add_to(graph: &mut Graph, delta: &Delta) -> Result<(), ApplyStop>
     ensures { OnOk result (IsShaped (plain graph.new)) }
 {
     law_stored(graph);
-    apply(graph, delta)
+    apply(graph, delta)?;
+    Ok(())
 }
 
 fn named_graph(rt: &HostRuntime) -> Result<Graph, Fail>
