@@ -3,3 +3,5 @@ pub mod Facts
 pub mod Shapes
 pub mod Fits
 pub mod Counts
+pub mod Steps
+pub mod Chaining

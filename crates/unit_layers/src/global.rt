@@ -73,7 +73,8 @@ fn count_inner(graph: &Graph) -> u32
 {
     law_stored(graph);
     let mut count = 0;
-    for edge in graph.edges() {
+    let edges = graph.edges();
+    for edge in edges {
         if edge.kind == EdgeKind::Ast && is_global(graph, edge.to) {
             count += 1;
         }

@@ -2,6 +2,7 @@
 #![tactic(auto)]
 
 mod global;
+pub mod laws;
 mod pass;
 mod ready;
 mod trees;
