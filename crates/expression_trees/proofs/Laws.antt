@@ -44,10 +44,10 @@ use Rattle.c_tree.specs.Forms.{sole}
 use Rattle.expression_trees.specs.Saying.{Said, ◌and◌, token, uses}
 use Rattle.expression_trees.specs.Trees.{steps_of, of_expr, of_assign, of_arm, of_binary, of_prefixed, of_target, of_operand, of_prefix, of_base_form, of_post, of_type_name, of_item, of_spec, of_pointer}
 
-abbrev said_of : Symbols → List Event → Said
+abbrev pub said_of : Symbols → List Event → Said
 said_of symbols events = record { symbols = symbols; events = events }
 
-same_said : {s t : Symbols} {d e : List Event} → s ≡ t → d ≡ e → said_of s d ≡ said_of t e
+pub same_said : {s t : Symbols} {d e : List Event} → s ≡ t → d ≡ e → said_of s d ≡ said_of t e
 same_said {t = t} {d = d} p q = ap (λ (z : Symbols). said_of z d) p ∙ ap (said_of t) q
 
 -- ---- Lists
@@ -101,10 +101,10 @@ abbrev pub brace_ends : List ℕ → Said → Said
 brace_ends marks k = record { symbols = brace_end marks ++ k.symbols; events = k.events }
 
 module _ {A : Type 0} (symbols : A → Symbols) (met : A → Met) where
-  abbrev by_parts : A → Said
+  abbrev pub by_parts : A → Said
   by_parts a = record { symbols = symbols a; events = (met a).events }
 
-  each_is : (xs : List A) (s : Symbols) (e : List Event) →
+  pub each_is : (xs : List A) (s : Symbols) (e : List Event) →
       said_of (joined (map symbols xs) ++ s) (all_met (map met xs) ++ e) ≡ each by_parts xs (said_of s e)
   each_is [] s e = refl
   each_is (x ∷ xs) s e =

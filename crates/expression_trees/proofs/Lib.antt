@@ -6,3 +6,10 @@ pub mod Lists
 pub mod Links
 pub mod FrontRules
 pub mod BackRules
+pub mod Meaning
+pub mod Alike
+pub mod AlikeRules
+pub mod Simplest
+pub mod Leveled
+pub mod Meeting
+pub mod Bridge

@@ -1,2 +1,4 @@
 pub mod Saying
 pub mod Trees
+pub mod Simplest
+pub mod Spelling
