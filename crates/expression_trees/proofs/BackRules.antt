@@ -55,8 +55,8 @@ use Rattle.c_syntax.specs.Inner.{Inner}
 use Rattle.c_syntax.specs.ExpressionRules as lang
 use Rattle.expression_trees.specs.Saying.{Said, ◌and◌, token, uses}
 use Rattle.expression_trees.specs.Trees.{of_expr, of_assign, of_arm, of_binary, of_prefixed, of_target, of_operand, of_prefix, of_base_form, of_post, of_type_name, of_item}
-use Rattle.expression_trees.proofs.Laws as law
-use Rattle.expression_trees.proofs.Laws.{texts, each, pairs, values, commas, brace_ends, arm_of}
+use Rattle.expression_trees.proofs.FormsSay as law
+use Rattle.expression_trees.proofs.FormsSay.{texts, each, pairs, values, commas, brace_ends, arm_of}
 use Rattle.expression_trees.proofs.Lists.{Every, every_of, by_none, by_one, by_two, by_pairs}
 use Rattle.expression_trees.proofs.Front.{Open}
 use Rattle.expression_trees.proofs.Back.{Back, Spins, Hears, back_pure, back_then, back_token, back_left, back_right, back_same, back_look, back_loop, spins_same, spins_look, many_stop, many_step, repeat_again, repeat_done}

@@ -58,8 +58,8 @@ use Rattle.c_syntax.specs.Inner.{Inner}
 use Rattle.c_syntax.specs.ExpressionRules as lang
 use Rattle.expression_trees.specs.Saying.{Said, ◌and◌, token, uses, FitTokens, AreMet, AreSaid}
 use Rattle.expression_trees.specs.Trees.{of_expr, of_assign, of_arm, of_binary, of_prefixed, of_target, of_operand, of_prefix, of_base_form, of_post, of_type_name, of_item}
-use Rattle.expression_trees.proofs.Laws as law
-use Rattle.expression_trees.proofs.Laws.{texts, each, pairs, values, commas, brace_ends, arm_of}
+use Rattle.expression_trees.proofs.FormsSay as law
+use Rattle.expression_trees.proofs.FormsSay.{texts, each, pairs, values, commas, brace_ends, arm_of}
 use Rattle.expression_trees.proofs.Lists.{Every, all_of, every_snoc, length_commas, length_marks}
 use Rattle.expression_trees.proofs.Links.{out_op, out_cast, not_cast, Allows, linked_snoc, allows_last, allows_op}
 use Rattle.expression_trees.proofs.Front.{Open, Adds, IsOf, adds_pure, adds_then, adds_or, adds_token, adds_part, adds_from, adds_looser, adds_same, adds_many, adds_repeat, adds_after, adds_none, by_turn}

@@ -2,6 +2,7 @@
 -- is open. One term a rule.
 
 use Rattle.std.proofs.Common.{◌≡◌, ◌⊎◌, inl, inr, ℕ, zero, suc, ◌+◌, ◌-◌, ◌==◌, ◌||◌, if◌then◌else◌, Bool, true, false, List, [], ◌∷◌, ◌++◌, Option, Some, length, sum, map, refl, sym, ap, ◌∙◌, subst, arith, eqb-true}
+use Rattle.std.specs.List.{fold}
 use Rattle.c_lexer.specs.declared.token.Kind.{Kind}
 use Rattle.c_lexer.specs.declared.token.Kind.TheVariants as k
 use Rattle.c_lexer.specs.declared.keyword.TheConstants.{KEY_SIZEOF, KEY_ALIGNOF}
@@ -45,6 +46,7 @@ use Rattle.c_syntax.specs.Steps.{one_among, one_mark}
 use Rattle.c_syntax.specs.Forms.{one_part, with_part, expr_of, call_of, one_item, with_item, with_mark, compound_of, flushed, chain_start, with_op, with_size, with_cast, prefixed_of, is_target, begun_of, binary_of, arms_start, with_arm, assign_of}
 use Rattle.c_syntax.specs.Inner.{Inner}
 use Rattle.c_syntax.specs.ExpressionRules as lang
+use Rattle.expression_trees.specs.ExactTrees as goal
 use Rattle.expression_trees.proofs.Tokens.{mark_is}
 
 -- The marks by which levels change.
@@ -57,8 +59,12 @@ inside_of n = record { innermost = 0; around = n.innermost ∷ n.around }
 abbrev pub asked : Nesting → Nesting
 asked n = record { innermost = n.innermost + 1; around = n.around }
 
+sum_from : (a : ℕ) (xs : List ℕ) → fold ◌+◌ a xs ≡ a + fold ◌+◌ 0 xs
+sum_from a [] = omega arith
+sum_from a (x ∷ xs) = omega (arith, sum_from (a + x) xs, sum_from (0 + x) xs)
+
 inside_level : (n : Nesting) → nesting_level (inside_of n) ≡ suc (nesting_level n)
-inside_level n = let e : sum (n.innermost ∷ n.around) ≡ n.innermost + sum n.around = refl in omega (arith, e)
+inside_level n = let e : fold ◌+◌ (0 + n.innermost) n.around ≡ (0 + n.innermost) + fold ◌+◌ 0 n.around = sum_from (0 + n.innermost) n.around in omega (arith, e)
 
 asked_level : (n : Nesting) → nesting_level (asked n) ≡ suc (nesting_level n)
 asked_level n = omega arith
@@ -92,13 +98,11 @@ flat_kind n t k.Pragma bytes h = (refl, refl)
 
 -- The level around is given.
 module _ (base : ℕ) where
-  abbrev pub level_at : Nesting → Kind → ℕ
-  level_at n kind = base + (nesting_level n + opens_at (Some kind))
+  abbrev level_at : Nesting → Kind → ℕ
+  level_at n kind = goal.level_at base n kind
 
-  -- The tokens have the levels that what is open gives them, from the one to the other.
-  abbrev pub Walks : Nesting → List (Leveled KeptToken) → Nesting → Type 0
-  Walks n [] m = n ≡ m
-  Walks n (x ∷ w) m = (x.1 ≡ level_at n x.0.lexeme.kind) × Walks (after_token n x.0.lexeme.kind) w m
+  abbrev Walks : Nesting → List (Leveled KeptToken) → Nesting → Type 0
+  Walks n w m = goal.Walks base n w m
 
   walks_append : (n m o : Nesting) (v w : List (Leveled KeptToken)) → Walks n v m → Walks m w o → Walks n (v ++ w) o
   walks_append n m o [] w p q = subst (λ z. Walks z w o) (sym p) q

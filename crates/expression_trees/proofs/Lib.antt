@@ -1,7 +1,7 @@
 pub mod Front
 pub mod Back
 pub mod Tokens
-pub mod Laws
+pub mod FormsSay
 pub mod Lists
 pub mod Links
 pub mod FrontRules
@@ -13,3 +13,6 @@ pub mod Simplest
 pub mod Leveled
 pub mod Meeting
 pub mod Bridge
+pub mod SimplestNumbers
+pub mod Exactly
+pub mod Whole

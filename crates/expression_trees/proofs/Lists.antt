@@ -4,7 +4,7 @@ use Rattle.std.proofs.Common.{◌≡◌, ℕ, zero, suc, ◌+◌, List, [], ◌�
 use Rattle.std.specs.Prelude.{All}
 use Rattle.std.proofs.lemmas.List.Elements.{All-nil, All-cons, All-head, All-tail}
 use Rattle.c_tree.specs.Shape.{HasMarks}
-use Rattle.expression_trees.proofs.Laws.{values, commas}
+use Rattle.expression_trees.proofs.FormsSay.{values, commas}
 
 abbrev pub Every : {A : Type 0} → (A → Type 0) → List A → Type 0
 Every P [] = Prim.Unit {0}

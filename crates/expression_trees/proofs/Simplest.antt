@@ -38,8 +38,8 @@ use Rattle.c_syntax.specs.ExpressionRules.{whole, inner_expr}
 use Rattle.expression_trees.specs.Saying.{Said, ◌and◌, token, uses, AreTrees, AreWords}
 use Rattle.expression_trees.specs.Trees.{steps_of, of_assign, of_expr, of_type_name, of_spec, of_pointer, of_item}
 use Rattle.expression_trees.specs.Simplest.{IsSimplestTypeName, IsSimplestItem, simplest_of, IsSimplestAssign}
-use Rattle.expression_trees.proofs.Laws as law
-use Rattle.expression_trees.proofs.Laws.{each, said_of, same_said, each_is}
+use Rattle.expression_trees.proofs.FormsSay as law
+use Rattle.expression_trees.proofs.FormsSay.{each, said_of, same_said, each_is}
 use Rattle.expression_trees.proofs.Lists.{Every}
 use Rattle.expression_trees.proofs.Front.{Open, Adds, adds_pure, adds_then, adds_or, adds_token, adds_part, adds_same, adds_many, adds_to}
 use Rattle.expression_trees.proofs.Back.{Back, Spins, back_pure, back_then, back_token, back_left, back_right, back_same, back_loop, spins_same, many_stop, many_step}
