@@ -1,1 +1,2 @@
 pub mod ReadLater
+pub mod UnitsAreRead

@@ -5,7 +5,7 @@ use Rattle.reading.specs.Terminals.{is_within}
 use Rattle.reading.specs.Languages.{Leveled, tokens_of, either}
 use Rattle.reading.specs.Rules.{Rule, ◌or◌}
 use Rattle.reading.specs.Readers.{Reader, Input, Outcome, offends, too_deep}
-use Rattle.reading.specs.Exact.{Family, AreNoWord, IsLongest, IsExact, reads, refuses, is_too_deep}
+use Rattle.reading.specs.Exact.{AreShallow, AreLexemes, Family, AreNoWord, IsLongest, IsExact, reads, refuses, is_too_deep}
 use Rattle.reading.proofs.Sets.{never, within_itself}
 use Rattle.reading.proofs.Cutting.{Cut, cut, equal, earlier, later}
 use Rattle.reading.proofs.ExactThen.{raised, raised_left}
@@ -27,6 +27,19 @@ shorter_false [] [] e = omega arith
 shorter_false [] (b ∷ m) e = never (sym e)
 shorter_false (a ∷ l) [] e = omega arith
 shorter_false (a ∷ l) (b ∷ m) e = let k = shorter_false l m e in omega arith
+
+-- A reading stops behind a run of the tokens.
+record Stopped {Token A : Type 0} (IsLexeme : Token → Type 0) (X : Family Token A) (ts left : List Token) : Type 0 where
+  run : List (Leveled Token)
+  more : List (Leveled Token)
+  turns : ℕ
+  value : A
+  split : ts ≡ tokens_of run ++ left
+  shallow : AreShallow run
+  lexemes : AreLexemes IsLexeme more
+  is : X turns (run ++ more) value
+  longest : IsLongest X run left
+  none : AreNoWord X (tokens_of run)
 
 -- ---- Each of two readings is exact
 
@@ -90,31 +103,33 @@ module _ {Token Scope Around A : Type 0} (IsLexeme : Token → Type 0) (around :
   At ts scope = record { tokens = ts; scope = scope; around = around }
 
   -- Both stop: the later stop is that of the whole.
-  both_stop : (ts : List Token) (left_x left_y : List Token) (sc_x sc_y : Scope) → IsExact IsLexeme around X ts (Err (offends (At left_x sc_x))) →
-      IsExact IsLexeme around Y ts (Err (offends (At left_y sc_y))) → (b : Bool) → is_shorter left_x left_y ≡ b →
+  both_stop : (ts left_x left_y : List Token) (sc_x sc_y : Scope) → Stopped IsLexeme X ts left_x → Stopped IsLexeme Y ts left_y → (b : Bool) → is_shorter left_x left_y ≡ b →
       IsExact {A = A} IsLexeme around OrFamily ts (Err (offends (if b then At left_x sc_x else At left_y sc_y)))
-  both_stop ts left_x left_y sc_x sc_y (refuses run_x more_x left_x d_x a_x sc_x e_x sh_x lex_x x long_x none_x) (refuses run_y more_y left_y d_y a_y sc_y e_y sh_y lex_y y long_y none_y) true e =
-      let k = or_x ts run_x run_y left_x left_y e_x e_y long_x none_x long_y none_y
-          (y_behind ts run_x run_y left_x left_y e_x e_y long_x none_x long_y none_y (shorter_true left_x left_y e) (between ts run_x run_y left_x left_y e_x e_y long_x none_x long_y none_y)) in
-      refuses run_x more_x left_x d_x a_x sc_x e_x sh_x lex_x (inl x) k.0 k.1
-  both_stop ts left_x left_y sc_x sc_y (refuses run_x more_x left_x d_x a_x sc_x e_x sh_x lex_x x long_x none_x) (refuses run_y more_y left_y d_y a_y sc_y e_y sh_y lex_y y long_y none_y) false e =
-      let k = or_y ts run_x run_y left_x left_y e_x e_y long_x none_x long_y none_y
-          (x_behind ts run_x run_y left_x left_y e_x e_y long_x none_x long_y none_y (shorter_false left_x left_y e) (between ts run_x run_y left_x left_y e_x e_y long_x none_x long_y none_y)) in
-      refuses run_y more_y left_y d_y a_y sc_y e_y sh_y lex_y (inr y) k.0 k.1
+  both_stop ts left_x left_y sc_x sc_y x y true e =
+      let k = or_x ts x.run y.run left_x left_y x.split y.split x.longest x.none y.longest y.none
+          (y_behind ts x.run y.run left_x left_y x.split y.split x.longest x.none y.longest y.none (shorter_true left_x left_y e)
+          (between ts x.run y.run left_x left_y x.split y.split x.longest x.none y.longest y.none)) in
+      refuses x.run x.more left_x x.turns x.value sc_x x.split x.shallow x.lexemes (inl x.is) k.0 k.1
+  both_stop ts left_x left_y sc_x sc_y x y false e =
+      let k = or_y ts x.run y.run left_x left_y x.split y.split x.longest x.none y.longest y.none
+          (x_behind ts x.run y.run left_x left_y x.split y.split x.longest x.none y.longest y.none (shorter_false left_x left_y e)
+          (between ts x.run y.run left_x left_y x.split y.split x.longest x.none y.longest y.none)) in
+      refuses y.run y.more left_y y.turns y.value sc_y y.split y.shallow y.lexemes (inr y.is) k.0 k.1
 
-  second_at : (ts left_x : List Token) (sc_x : Scope) → IsExact {A = A} IsLexeme around X ts (Err (offends (At left_x sc_x))) → (o : Outcome Token Scope Around A) → IsExact IsLexeme around Y ts o →
+  second_at : (ts left_x : List Token) (sc_x : Scope) → Stopped IsLexeme X ts left_x → (o : Outcome Token Scope Around A) → IsExact IsLexeme around Y ts o →
       IsExact IsLexeme around OrFamily ts (behind_stop (At left_x sc_x) o)
-  second_at ts left_x sc_x p o (reads run left d a sc e sh y long) = reads run left d a sc e sh (inr y) (longest_y run left d (a, sc) y long)
-  second_at ts left_x sc_x p o (is_too_deep run more s level left d a sc e sh k lex y) = is_too_deep run more s level left d a sc e sh k lex (inr y)
-  second_at ts left_x sc_x p o (refuses run more left d a sc e sh lex y long none) =
-      both_stop ts left_x left sc_x sc p (refuses run more left d a sc e sh lex y long none) (is_shorter left_x left) refl
+  second_at ts left_x sc_x x o (reads run left d a sc e sh y long) = reads run left d a sc e sh (inr y) (longest_y run left d (a, sc) y long)
+  second_at ts left_x sc_x x o (is_too_deep run more s level left d a sc e sh k lex y) = is_too_deep run more s level left d a sc e sh k lex (inr y)
+  second_at ts left_x sc_x x o (refuses run more left d a sc e sh lex y long none) =
+      both_stop ts left_x left sc_x sc x
+      (record { run = run; more = more; turns = d; value = a; split = e; shallow = sh; lexemes = lex; is = y; longest = long; none = none }) (is_shorter left_x left) refl
 
   pub exact_later : (ts : List Token) (o o' : Outcome Token Scope Around A) → IsExact IsLexeme around X ts o → IsExact IsLexeme around Y ts o' →
       IsExact IsLexeme around OrFamily ts (behind_first o o')
   exact_later ts o o' (reads run left d a sc e sh x long) q = reads run left d a sc e sh (inl x) (longest_x run left d (a, sc) x long)
   exact_later ts o o' (is_too_deep run more s level left d a sc e sh k lex x) q = is_too_deep run more s level left d a sc e sh k lex (inl x)
   exact_later ts o o' (refuses run more left d a sc e sh lex x long none) q =
-      second_at ts left sc (refuses run more left d a sc e sh lex x long none) o' q
+      second_at ts left sc (record { run = run; more = more; turns = d; value = a; split = e; shallow = sh; lexemes = lex; is = x; longest = long; none = none }) o' q
 
 -- ---- One part or the other
 

@@ -1,13 +1,11 @@
 -- Readers of files (C11 6.9).
 
-use Rattle.std.specs.Prelude.{ℕ, List, [], ◌∷◌, ◌++◌, Result, Ok, Err}
+use Rattle.std.specs.Prelude.{ℕ, List, [], ◌∷◌, ◌++◌, Err}
 use Rattle.c_tree.specs.declared.tree.Item.{Item}
 use Rattle.c_tree.specs.declared.tree.Item.TheVariants as item_
 use Rattle.c_tree.specs.declared.tree.Unit.{Unit}
-use Rattle.c_scopes.specs.Scopes.{OpenScopes}
-use Rattle.reading.specs.Readers.{◌>>=◌, Input, Outcome, pure, changes, many, and_then, offends}
+use Rattle.reading.specs.Readers.{◌>>=◌, pure, changes, many, and_then, offends}
 use Rattle.c_reading.specs.Kept.{KeptToken}
-use Rattle.c_reading.specs.Cursors.{Around}
 use Rattle.c_syntax.specs.Scoping.{PartReader, terminal_of}
 use Rattle.c_stmt.specs.StatementSets.{begins_declaration}
 use Rattle.c_stmt.specs.Below.{BelowReaders}
@@ -15,6 +13,11 @@ use Rattle.c_stmt.specs.Statements.{read_block}
 use Rattle.c_unit.specs.Heads.{Head}
 use Rattle.c_unit.specs.Later.{later}
 use Rattle.c_unit.specs.UnitRules.{Defined, defined, item_of, with_function, behind_function}
+
+-- Behind the items of a file no token is left.
+abbrev pub at_end : Unit → List KeptToken → PartReader Unit
+at_end all [] = pure all
+at_end all (token ∷ tokens) = λ input. Err (offends input)
 
 module _ (below : BelowReaders) (head : ℕ → PartReader Head) (room : ℕ) where
   unfoldable pub named_head : PartReader Head
@@ -55,11 +58,6 @@ module _ (below : BelowReaders) (head : ℕ → PartReader Head) (room : ℕ) wh
   unit = do
     all ← all_items
     pure (record { items = all })
-
-  -- Behind the items of a file no token is left.
-  abbrev pub at_end : Unit → List KeptToken → PartReader Unit
-  at_end all [] = pure all
-  at_end all (token ∷ tokens) = λ input. Err (offends input)
 
   -- A whole file.
   unfoldable pub file : PartReader Unit
