@@ -1,7 +1,7 @@
 -- Two parts of which no word begins one of the other: what one token of lookahead does not decide is
 -- read exactly, where each is and its reader is chosen for a reason.
 
-use Rattle.std.proofs.Common.{◌≡◌, inl, inr, ℕ, suc, Bool, true, false, List, [], ◌∷◌, ◌++◌, refl, sym, ap, ◌∙◌, subst, append-nil}
+use Rattle.std.proofs.Common.{◌≡◌, inl, inr, ℕ, suc, Bool, true, false, List, [], ◌∷◌, ◌++◌, sym, ap, ◌∙◌, subst, append-nil}
 use Rattle.reading.specs.Terminals.{has, is_within}
 use Rattle.reading.specs.Languages.{Leveled, Language, tokens_of, either}
 use Rattle.reading.specs.Rules.{Rule, ◌or◌}
@@ -9,9 +9,9 @@ use Rattle.reading.specs.Readers.{Reader, Outcome, begins}
 use Rattle.reading.specs.Exact.{Family, AreNoWord, IsLongest, IsExact, reads, refuses, is_too_deep}
 use Rattle.reading.proofs.Sets.{never, within, within_left, within_right, in_union}
 use Rattle.reading.proofs.Cutting.{tokens_none}
-use Rattle.reading.proofs.Predictive.{IsPredictive, head_fits}
+use Rattle.reading.proofs.Predictive.{IsPredictive}
 use Rattle.reading.proofs.Words.{Ready, ready_in, same_word}
-use Rattle.reading.proofs.ReadBy.{Stage, Covers, IsWhole, covers_all, no, IsReadBy}
+use Rattle.reading.proofs.ReadBy.{Stage, Covers, IsWhole, no, IsReadBy}
 
 -- No word of the second begins one of the first, and is none.
 abbrev pub NoneBegins : {Token A B : Type 0} → Language Token A → Language Token B → Type 0
@@ -96,9 +96,10 @@ module _ {Token A : Type 0} (X : Family Token A) (not_empty : (d : ℕ) (a : A) 
   pub none_of_first : (t : Token) (ts : List Token) → ((d : ℕ) (w : List (Leveled Token)) (a : A) (vs : List Token) → tokens_of w ≡ t ∷ vs → X d w a → ⊥) →
       (run : List (Leveled Token)) (left : List Token) → t ∷ ts ≡ tokens_of run ++ left → IsLongest X run left × AreNoWord X (tokens_of run)
   none_of_first t ts none [] left e = (λ s us more h d w b g x. none d w b more (g ∙ (let k : t ≡ s = (let l : t ∷ ts ≡ s ∷ us = e ∙ h in cc) in ap (λ y. y ∷ more) (sym k))) x, empty_is_none)
-  none_of_first t ts none (z ∷ run) left e =
-      (λ s us more h d w b g x. none d w b (tokens_of run ++ s ∷ more) (g ∙ ap (λ y. y ∷ (tokens_of run ++ s ∷ more)) (let k : z.0 ≡ t = cc in k)) x,
-      λ d w b g x. none d w b (tokens_of run) (g ∙ ap (λ y. y ∷ tokens_of run) (let k : z.0 ≡ t = cc in k)) x)
+  none_of_first t ts none (z ∷ run) left e = (
+    λ s us more h d w b g x. none d w b (tokens_of run ++ s ∷ more) (g ∙ ap (λ y. y ∷ (tokens_of run ++ s ∷ more)) (let k : z.0 ≡ t = cc in k)) x,
+    λ d w b g x. none d w b (tokens_of run) (g ∙ ap (λ y. y ∷ tokens_of run) (let k : z.0 ≡ t = cc in k)) x,
+  )
 
   -- A test that the second token of a word passes is passed by that of the tokens.
   abbrev Passes : List Token → List Token → Type 0

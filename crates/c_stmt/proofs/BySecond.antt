@@ -1,6 +1,6 @@
 -- Two parts that begin with the same tokens, behind which another one decides, are read exactly.
 
-use Rattle.std.proofs.Common.{◌≡◌, inl, inr, ℕ, Bool, true, false, not, if◌then◌else◌, List, [], ◌∷◌, ◌++◌, refl, sym, ◌∙◌, subst}
+use Rattle.std.proofs.Common.{◌≡◌, inl, inr, ℕ, Bool, true, false, not, if◌then◌else◌, List, [], ◌∷◌, ◌++◌, refl, sym, ◌∙◌}
 use Rattle.reading.specs.Terminals.{has, is_within, are_disjoint}
 use Rattle.reading.specs.Languages.{Leveled, tokens_of}
 use Rattle.reading.specs.Rules.{Rule, ◌or◌}

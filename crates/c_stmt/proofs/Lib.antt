@@ -4,3 +4,4 @@ pub mod Otherwise
 pub mod StatementReadings
 pub mod StatementsAreRead
 pub mod WholeStatements
+pub mod Samples

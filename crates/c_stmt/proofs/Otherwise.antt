@@ -1,12 +1,12 @@
 -- One part where the next token begins it, or else the words of another that it leaves, are read exactly.
 
-use Rattle.std.proofs.Common.{◌≡◌, inl, inr, ℕ, suc, Bool, true, false, if◌then◌else◌, List, [], ◌∷◌, ◌++◌, refl, sym, ap, ◌∙◌, subst}
+use Rattle.std.proofs.Common.{◌≡◌, inl, inr, ℕ, suc, Bool, true, false, if◌then◌else◌, List, [], ◌∷◌, ◌++◌, refl, sym, ◌∙◌, subst}
 use Rattle.reading.specs.Terminals.{has, is_within, are_disjoint}
 use Rattle.reading.specs.Languages.{Leveled, tokens_of}
 use Rattle.reading.specs.Rules.{Rule, ◌or◌}
 use Rattle.reading.specs.Readers.{Reader, Input, Outcome, begins, branch}
 use Rattle.reading.specs.Exact.{AreNoWord, IsLongest, IsExact, reads, refuses, is_too_deep}
-use Rattle.reading.proofs.Sets.{never, within, within_itself, within_left, within_right, in_union, disjoint}
+use Rattle.reading.proofs.Sets.{never, within, within_left, within_right, in_union, disjoint}
 use Rattle.reading.proofs.Cutting.{tokens_none}
 use Rattle.reading.proofs.Predictive.{IsPredictive, head_fits}
 use Rattle.reading.proofs.PredictiveEither.{predictive_either}

@@ -1,6 +1,6 @@
 -- Statements and blocks are read exactly (C11 6.8), a term a rule.
 
-use Rattle.std.proofs.Common.{◌≡◌, inl, inr, ℕ, zero, suc, ◌-◌, ◌<◌, Bool, true, false, not, List, [], ◌∷◌, ◌++◌, Option, Some, None, refl, sym, ap, ◌∙◌, subst, append-nil, arith}
+use Rattle.std.proofs.Common.{◌≡◌, inl, inr, ℕ, zero, suc, ◌-◌, ◌<◌, Bool, true, false, not, List, [], ◌∷◌, ◌++◌, Some, None, refl, sym, ap, ◌∙◌, subst, append-nil, arith}
 use Rattle.c_lexer.specs.declared.token.Kind.TheVariants.{Word, Key, Mark}
 use Rattle.c_lexer.specs.declared.keyword.TheConstants.{KEY_BREAK, KEY_CASE, KEY_CONTINUE, KEY_DEFAULT, KEY_DO, KEY_ELSE, KEY_FOR}
 use Rattle.c_lexer.specs.declared.keyword.TheConstants.{KEY_GOTO, KEY_IF, KEY_RETURN, KEY_SWITCH, KEY_WHILE}
@@ -38,14 +38,13 @@ use Rattle.c_stmt.specs.declared.forms.Ended.{Ended}
 use Rattle.c_stmt.specs.declared.forms.BlockItems.{BlockItems}
 use Rattle.c_stmt.specs.declared.forms.Arm.{Arm}
 use Rattle.c_stmt.specs.declared.forms.Arms.{Arms}
-use Rattle.c_stmt.specs.declared.forms.MaybeExpr.{MaybeExpr}
 use Rattle.c_stmt.specs.StatementSets.{a_colon, a_left_brace, an_if, begins_expr, begins_declaration, a_statement_mark, begins_other, begins_plain, begins_statement, begins_item}
 use Rattle.c_stmt.specs.Below.{Below, BelowReaders, Inside, InsideReaders}
 use Rattle.c_stmt.specs.StatementForms.{closed, ended_of, with_label, with_case, with_default, no_items, with_item, block_of, arm_of, first_arms, with_arm, arms_to, without_else}
 use Rattle.c_stmt.specs.StatementForms.{with_else, switch_of, while_of, do_of, maybe_expr, for_head, for_of}
 use Rattle.c_stmt.specs.StatementRules as lang
 use Rattle.c_stmt.specs.StatementReaders as read
-use Rattle.c_stmt.proofs.StatementReadings.{Tokens, IsRead, BelowAreRead, InsideAreRead, IsColon, sample, fixed, same_entered, nothing, after_expr, after_assign, an_else, else_if, after_ended}
+use Rattle.c_stmt.proofs.StatementReadings.{Tokens, IsRead, BelowAreRead, InsideAreRead, IsColon, sample, fixed, same_entered, nothing, after_expr, an_else, else_if, after_ended}
 use Rattle.c_stmt.proofs.BySecond.{read_by_second}
 use Rattle.c_stmt.proofs.Otherwise.{read_otherwise}
 

@@ -1,9 +1,8 @@
 -- Statements and blocks are read exactly, on each level.
 
-use Rattle.std.proofs.Common.{◌≡◌, inl, ℕ, zero, suc, ◌+◌, ◌<◌, ◌≤◌, List, [], ◌∷◌, ◌++◌, refl, sym, append-nil, arith}
+use Rattle.std.proofs.Common.{◌≡◌, inl, ℕ, zero, suc, ◌+◌, ◌<◌, ◌≤◌, List, [], refl, sym, append-nil, arith}
 use Rattle.c_tree.specs.declared.tree.BlockItem.TheVariants as item_
 use Rattle.c_scopes.specs.Scopes.{OpenScopes}
-use Rattle.reading.specs.Languages.{Leveled}
 use Rattle.reading.specs.Nesting.{nested, nested_reader}
 use Rattle.reading.specs.Exact.{HIGHEST_LEVEL, room_on, IsExact}
 use Rattle.reading.proofs.Words.{Some}
@@ -14,11 +13,9 @@ use Rattle.reading.proofs.Knot.{read_nested, read_nested_at}
 use Rattle.c_reading.specs.Kept.{KeptToken}
 use Rattle.c_reading.specs.Cursors.{Around}
 use Rattle.c_syntax.specs.Scoping.{Part, PartReader}
-use Rattle.c_stmt.specs.declared.forms.Ended.{Ended}
 use Rattle.c_stmt.specs.StatementSets.{a_left_brace, begins_statement, begins_item}
 use Rattle.c_stmt.specs.Below.{Below, BelowReaders, Inside}
 use Rattle.c_stmt.specs.StatementRules as lang
-use Rattle.c_stmt.specs.StatementReaders as read
 use Rattle.c_stmt.specs.Statements.{Name, items, statements, Value, inside_of, readers_of, rule_of, reader_of, statement, block, read_statement, read_block}
 use Rattle.c_stmt.proofs.StatementReadings.{Tokens, IsRead, BelowAreRead, nothing, an_else, after_ended}
 use Rattle.c_stmt.proofs.StatementsAreRead.{turn_ends, block_is_read, statement_is_read, item_is_read}

@@ -29,5 +29,5 @@ module _ {Token Scope : Type 0} (terminal_of : Scope → Token → ℕ) where
       Reader Token Scope Around A → Reader Token Scope Around A → Reader Token Scope Around A
   by_second shared seconds others p q = λ input.
       if is_ahead terminal_of shared input then
-        (if is_second seconds input then p input else q input)
+      (if is_second seconds input then p input else q input)
       else (if is_ahead terminal_of others input then p input else q input)

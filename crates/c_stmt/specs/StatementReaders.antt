@@ -1,7 +1,7 @@
--- Readers of statements and blocks (C11 6.8). There is room for tokens of the level, and what stands
--- in braces or is a body is read one level deeper.
+-- Readers of statements and blocks (C11 6.8). There is room for tokens of the level, and what
+-- stands in braces or is a body is read one level deeper.
 
-use Rattle.std.specs.Prelude.{ℕ, ◌-◌, Bool, true, false, List, [], ◌∷◌, ◌++◌, Option, Some, None}
+use Rattle.std.specs.Prelude.{ℕ, ◌-◌, Bool, true, false, List, [], ◌∷◌, Some, None}
 use Rattle.c_lexer.specs.declared.keyword.TheConstants.{KEY_BREAK, KEY_CASE, KEY_CONTINUE}
 use Rattle.c_lexer.specs.declared.keyword.TheConstants.{KEY_DEFAULT, KEY_DO, KEY_ELSE, KEY_FOR}
 use Rattle.c_lexer.specs.declared.keyword.TheConstants.{KEY_GOTO, KEY_IF, KEY_RETURN, KEY_SWITCH}
@@ -30,13 +30,13 @@ use Rattle.c_stmt.specs.declared.forms.BlockItems.{BlockItems}
 use Rattle.c_stmt.specs.declared.forms.Arm.{Arm}
 use Rattle.c_stmt.specs.declared.forms.Arms.{Arms}
 use Rattle.c_stmt.specs.declared.forms.MaybeExpr.{MaybeExpr}
-use Rattle.c_stmt.specs.declared.forms.ForHead.{ForHead}
 use Rattle.c_stmt.specs.Choices.{by_second}
 use Rattle.c_stmt.specs.StatementSets.{a_colon, begins_expr, a_statement_mark, begins_plain}
 use Rattle.c_stmt.specs.Below.{BelowReaders, InsideReaders}
 use Rattle.c_stmt.specs.StatementForms.{closed, ended_of, with_label, with_case, with_default}
 use Rattle.c_stmt.specs.StatementForms.{no_items, with_item, block_of, arm_of, first_arms, with_arm}
-use Rattle.c_stmt.specs.StatementForms.{arms_to, without_else, with_else, switch_of, while_of, do_of}
+use Rattle.c_stmt.specs.StatementForms.{arms_to, without_else, with_else, switch_of}
+use Rattle.c_stmt.specs.StatementForms.{while_of, do_of}
 use Rattle.c_stmt.specs.StatementForms.{maybe_expr, for_head, for_of}
 
 -- A scope begins.
@@ -278,9 +278,9 @@ module _ (below : BelowReaders) (room : ℕ) (inner : InsideReaders) where
   -- What begins with a keyword or a mark of its own.
   unfoldable pub kinded : PartReader Kinded
   kinded = where_mark MARK_SEMICOLON empty (where_mark MARK_LEFT_BRACE braced
-      (where_key KEY_IF if_ (where_key KEY_WHILE while_ (where_key KEY_DO do_ (where_key KEY_FOR for_
-      (where_key KEY_SWITCH switch_ (where_key KEY_BREAK break_ (where_key KEY_CONTINUE continue_
-      (where_key KEY_GOTO goto_ return_)))))))))
+      (where_key KEY_IF if_ (where_key KEY_WHILE while_ (where_key KEY_DO do_
+      (where_key KEY_FOR for_ (where_key KEY_SWITCH switch_ (where_key KEY_BREAK break_
+      (where_key KEY_CONTINUE continue_ (where_key KEY_GOTO goto_ return_)))))))))
 
   unfoldable pub kinded_turn : List Mark → PartReader (Turn (List Mark) Ended)
   kinded_turn labels = do

@@ -1,7 +1,7 @@
--- Rules of statements and blocks (C11 6.8). A rule of so many turns has at most so many items in its
--- lists, and nests at most so deep.
+-- Rules of statements and blocks (C11 6.8). A rule of so many turns has at most so many items in
+-- its lists, and nests at most so deep.
 
-use Rattle.std.specs.Prelude.{ℕ, suc, Bool, true, false, List, [], ◌∷◌, ◌++◌, Option, Some, None}
+use Rattle.std.specs.Prelude.{ℕ, suc, Bool, true, false, List, [], ◌∷◌, Some, None}
 use Rattle.c_lexer.specs.declared.keyword.TheConstants.{KEY_BREAK, KEY_CASE, KEY_CONTINUE}
 use Rattle.c_lexer.specs.declared.keyword.TheConstants.{KEY_DEFAULT, KEY_DO, KEY_ELSE, KEY_FOR}
 use Rattle.c_lexer.specs.declared.keyword.TheConstants.{KEY_GOTO, KEY_IF, KEY_RETURN, KEY_SWITCH}
@@ -29,13 +29,13 @@ use Rattle.c_stmt.specs.declared.forms.BlockItems.{BlockItems}
 use Rattle.c_stmt.specs.declared.forms.Arm.{Arm}
 use Rattle.c_stmt.specs.declared.forms.Arms.{Arms}
 use Rattle.c_stmt.specs.declared.forms.MaybeExpr.{MaybeExpr}
-use Rattle.c_stmt.specs.declared.forms.ForHead.{ForHead}
 use Rattle.c_stmt.specs.Choices.{without}
 use Rattle.c_stmt.specs.StatementSets.{a_left_brace, an_if}
 use Rattle.c_stmt.specs.Below.{Below, Inside}
 use Rattle.c_stmt.specs.StatementForms.{closed, ended_of, with_label, with_case, with_default}
 use Rattle.c_stmt.specs.StatementForms.{no_items, with_item, block_of, arm_of, first_arms, with_arm}
-use Rattle.c_stmt.specs.StatementForms.{arms_to, without_else, with_else, switch_of, while_of, do_of}
+use Rattle.c_stmt.specs.StatementForms.{arms_to, without_else, with_else, switch_of}
+use Rattle.c_stmt.specs.StatementForms.{while_of, do_of}
 use Rattle.c_stmt.specs.StatementForms.{maybe_expr, for_head, for_of}
 
 -- A scope begins.

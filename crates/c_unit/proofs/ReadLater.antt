@@ -1,15 +1,15 @@
 -- Two parts of which no word begins one of the other are read exactly by two readings.
 
-use Rattle.std.proofs.Common.{◌≡◌, inl, inr, ℕ, zero, suc, ◌+◌, ◌<◌, ◌≤◌, Bool, true, false, if◌then◌else◌, List, [], ◌∷◌, ◌++◌, length, Ok, Err, refl, sym, ap, ◌∙◌, subst, append-nil, length-append, append_assoc, arith}
+use Rattle.std.proofs.Common.{◌≡◌, inl, inr, ℕ, suc, ◌+◌, ◌<◌, ◌≤◌, Bool, true, false, if◌then◌else◌, List, [], ◌∷◌, ◌++◌, length, Err, refl, sym, ap, ◌∙◌, length-append, append_assoc, arith}
 use Rattle.reading.specs.Terminals.{is_within}
 use Rattle.reading.specs.Languages.{Leveled, tokens_of, either}
 use Rattle.reading.specs.Rules.{Rule, ◌or◌}
-use Rattle.reading.specs.Readers.{Reader, Input, Outcome, offends, too_deep}
+use Rattle.reading.specs.Readers.{Reader, Input, Outcome, offends}
 use Rattle.reading.specs.Exact.{AreShallow, AreLexemes, Family, AreNoWord, IsLongest, IsExact, reads, refuses, is_too_deep}
-use Rattle.reading.proofs.Sets.{never, within_itself}
+use Rattle.reading.proofs.Sets.{never}
 use Rattle.reading.proofs.Cutting.{Cut, cut, equal, earlier, later}
 use Rattle.reading.proofs.ExactThen.{raised, raised_left}
-use Rattle.reading.proofs.ReadBy.{Stage, Covers, IsWhole, covers_all, no, IsReadBy}
+use Rattle.reading.proofs.ReadBy.{Stage, Covers, covers_all, no, IsReadBy}
 use Rattle.c_stmt.proofs.Apart.{NoneBegins, read_apart}
 use Rattle.c_unit.specs.Later as two
 use Rattle.c_unit.specs.Later.{is_shorter, further, behind_stop, behind_first}

@@ -1,13 +1,13 @@
 -- Files are read exactly (C11 6.9), a term a rule.
 
-use Rattle.std.proofs.Common.{◌≡◌, inl, inr, ℕ, zero, suc, ◌+◌, ◌<◌, ◌≤◌, Bool, true, false, List, [], ◌∷◌, ◌++◌, Ok, Err, refl, sym, ap, ◌∙◌, subst, append-nil, append_assoc, arith}
+use Rattle.std.proofs.Common.{◌≡◌, ℕ, true, List, [], ◌∷◌, ◌++◌, refl, sym, ap, ◌∙◌, subst, append-nil, append_assoc}
 use Rattle.c_lexer.specs.declared.mark.TheConstants.{MARK_LEFT_BRACKET, MARK_LEFT_PAREN}
 use Rattle.c_tree.specs.declared.tree.Block.{Block}
 use Rattle.c_tree.specs.declared.tree.Declaration.{Declaration}
 use Rattle.c_tree.specs.declared.tree.Item.{Item}
 use Rattle.c_tree.specs.declared.tree.Item.TheVariants as item_
 use Rattle.c_tree.specs.declared.tree.Unit.{Unit}
-use Rattle.c_scopes.specs.Scopes.{OpenScopes, left, declared}
+use Rattle.c_scopes.specs.Scopes.{OpenScopes, left}
 use Rattle.reading.specs.Terminals.{has, is_within}
 use Rattle.reading.specs.Languages.{Leveled, tokens_of}
 use Rattle.reading.specs.Rules.{Rule}
@@ -16,8 +16,8 @@ use Rattle.reading.specs.Exact.{room_on, IsExact, reads}
 use Rattle.reading.specs.Exact as exact
 use Rattle.reading.proofs.Sets.{never, both, both_left, both_right, within, within_itself, within_right}
 use Rattle.reading.proofs.Cutting.{Cut, cut, equal, earlier, later, tokens_append}
-use Rattle.reading.proofs.Predictive.{head_fits, predictive_weaker}
-use Rattle.reading.proofs.ReadBy.{Stage, Covers, IsWhole, whole, covers_all, Nullable, no, keeping, IsReadBy, read_pure}
+use Rattle.reading.proofs.Predictive.{predictive_weaker}
+use Rattle.reading.proofs.ReadBy.{Stage, whole, Nullable, no, keeping, IsReadBy}
 use Rattle.reading.proofs.ReadOne.{HasRoom}
 use Rattle.reading.proofs.ReadThen.{read_then, read_map}
 use Rattle.reading.proofs.ReadSteps.{read_many}
@@ -100,7 +100,7 @@ module _ (tokens : Tokens) (below : Below) (below_readers : BelowReaders) (rb : 
 
   definition_is_read : {given : Type 0} → IsRead tokens whole given (λ d. lang.definition below head d) (read.definition below_readers read_head room) no rh.begins nothing
   unfolding lang.definition read.definition
-  definition_is_read = read_changing behind_function item_of nothing whole_function_is_read (λ w. fixed [] refl) (λ w. refl)
+  definition_is_read = read_changing (λ w. behind_function) item_of nothing whole_function_is_read (λ w. fixed [] refl) (λ w. refl)
 
   declaration_item_is_read : {given : Type 0} →
       IsRead tokens whole given (λ d. lang.declaration_item below head d) (read.declaration_item below_readers read_head room) no begins_declaration nothing

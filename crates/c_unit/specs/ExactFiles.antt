@@ -1,9 +1,11 @@
--- What is read of a file is exact: its tree, the first offending token, or the first that is too deep.
+-- What is read of a file is exact: its tree, the first offending token, or the first that is too
+-- deep.
 
 use Rattle.std.specs.Prelude.{ℕ, ◌≡◌, ◌<◌, List, [], ◌∷◌, ◌++◌, Ok, Err}
 use Rattle.reading.specs.Languages.{Leveled, tokens_of}
 use Rattle.reading.specs.Readers.{Outcome, offends, too_deep}
-use Rattle.reading.specs.Exact.{HIGHEST_LEVEL, Family, AreShallow, AreLexemes, AreNoWord, IsLongest}
+use Rattle.reading.specs.Exact.{HIGHEST_LEVEL, Family, AreShallow, AreLexemes, AreNoWord}
+use Rattle.reading.specs.Exact.{IsLongest}
 
 pub data IsExactFile {Token Scope Around A : Type 0} (IsLexeme : Token → Type 0) (around : Around)
     (X : Family Token (A × Scope)) (tokens : List Token) :

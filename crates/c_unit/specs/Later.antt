@@ -1,7 +1,7 @@
 -- Two readings of the same tokens, of which the one that goes on later says what offends.
 
 use Rattle.std.specs.Prelude.{Bool, true, false, if◌then◌else◌, List, [], ◌∷◌, Ok, Err}
-use Rattle.reading.specs.Readers.{Input, Halt, Outcome, Reader, offends, too_deep}
+use Rattle.reading.specs.Readers.{Input, Outcome, Reader, offends, too_deep}
 
 -- The first list has fewer elements.
 abbrev pub is_shorter : {A : Type 0} → List A → List A → Bool

@@ -34,15 +34,16 @@ module _ (below : BelowReaders) (head : ℕ → PartReader Head) (room : ℕ) wh
   unfoldable pub definition : PartReader Item
   definition = do
     whole ← whole_function
-    changes (behind_function whole) (item_of whole)
+    changes behind_function (item_of whole)
 
   unfoldable pub declaration_item : PartReader Item
   declaration_item = do
     declaration ← below.declaration room
     pure (item_.Declare declaration)
 
-  -- Whether a head is that of a definition is known where it ends: a definition's own parameters are
-  -- in scope in the rest of its declarator, those of a declaration are not. So there are two readings.
+  -- Whether a head is that of a definition is known where it ends: a definition's own parameters
+  -- are in scope in the rest of its declarator, those of a declaration are not. So there are two
+  -- readings.
   unfoldable pub external : PartReader Item
   external = later definition declaration_item
 

@@ -1,12 +1,12 @@
--- Rules of files (C11 6.9). A rule of so many turns has at most so many items in its lists, and nests
--- at most so deep.
+-- Rules of files (C11 6.9). A rule of so many turns has at most so many items in its lists, and
+-- nests at most so deep.
 
 use Rattle.std.specs.Prelude.{ℕ, false, List, [], ◌∷◌, ◌++◌}
 use Rattle.c_tree.specs.declared.tree.Block.{Block}
 use Rattle.c_tree.specs.declared.tree.Item.{Item}
 use Rattle.c_tree.specs.declared.tree.Item.TheVariants as item_
 use Rattle.c_tree.specs.declared.tree.Unit.{Unit}
-use Rattle.c_scopes.specs.Scopes.{OpenScopes, declared, left}
+use Rattle.c_scopes.specs.Scopes.{Declared, OpenScopes, declared}
 use Rattle.reading.specs.Rules.{◌>>=◌, ◌or◌, pure, changes, many}
 use Rattle.c_syntax.specs.Scoping.{Part}
 use Rattle.c_stmt.specs.Below.{Below}
@@ -24,14 +24,21 @@ defined head body = record { head = head; body = body }
 abbrev pub item_of : Defined → Item
 item_of whole = item_.Define whole.head.specs whole.head.declarator whole.body
 
--- The scopes of a body: its parameters', which the head leaves open, with the name of the function
+-- The scopes of a body. Its head leaves two open: that of the parameters, and in it one of what is
+-- declared in the rest of the declarator, in which the name of the function is declared last
 -- (6.2.1p4, p7).
 abbrev pub with_function : Head → OpenScopes → OpenScopes
 with_function head scopes = declared scopes head.name false
 
--- The scopes behind a body: its parameters' ends, and the name is declared around it.
-abbrev pub behind_function : Defined → OpenScopes → OpenScopes
-behind_function whole scopes = with_function whole.head (left scopes)
+-- The scope of the parameters ends with the body, and those declarations hold around it.
+abbrev pub joined : List Declared → List (List Declared) → OpenScopes
+joined rest [] = record { innermost = rest; around = [] }
+joined rest (parameters ∷ []) = record { innermost = rest; around = [] }
+joined rest (parameters ∷ scope ∷ around) =
+    record { innermost = rest ++ scope; around = around }
+
+abbrev pub behind_function : OpenScopes → OpenScopes
+behind_function scopes = joined scopes.innermost scopes.around
 
 module _ (below : Below) (head : ℕ → Part Head) (turns : ℕ) where
   -- ---- Function definitions (6.9.1)
@@ -50,7 +57,7 @@ module _ (below : Below) (head : ℕ → Part Head) (turns : ℕ) where
   unfoldable pub definition : Part Item
   definition = do
     whole ← whole_function
-    changes (behind_function whole) (item_of whole)
+    changes behind_function (item_of whole)
 
   -- ---- External declarations (6.9)
 
