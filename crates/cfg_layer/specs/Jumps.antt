@@ -4,9 +4,10 @@ use Rattle.cpg_schema.specs.Graph.{PlainGraph, PlainNode}
 use Rattle.cpg_schema.specs.Shape.{IsAbove}
 use Rattle.graph_parts.specs.Finds.{IsLeast}
 use Rattle.graph_parts.specs.Parts.{IsNodeWith}
+use Rattle.graph_parts.specs.Standing.{IsMethodAbove}
 use Rattle.cfg_layer.specs.Kinds.{HasKind, IsCase, IsDefault, IsGotoOf, IsLeft, IsLoop}
 use Rattle.cfg_layer.specs.Kinds.{IsTargetNamed, break_jump, continue_jump, switch_statement}
-use Rattle.cfg_layer.specs.Walked.{IsWalkedWith}
+use Rattle.cfg_layer.specs.Walked.{IsWalked, IsWalkedWith}
 
 -- The innermost node around this one that has the property: none with it stands between.
 pub record IsInnermost (graph : PlainGraph) (P : PlainNode → Type 0) (node around : ℕ) : Type 0
@@ -16,12 +17,18 @@ pub record IsInnermost (graph : PlainGraph) (P : PlainNode → Type 0) (node aro
     pub nearest : (between : ℕ) → IsAbove graph.edges around between →
         IsAbove graph.edges between node → ¬ IsNodeWith graph P between
 
--- A `goto` leads to the label of its NAME (6.8.6.1 p2). Ours: where several nodes that are walked
--- have it, to the least of them.
+-- A JUMP_TARGET of this NAME in the function.
+pub record IsLabelIn (graph : PlainGraph) (method : ℕ) (name : List ℕ) (target : ℕ) : Type 0 where
+  pub is_target : IsNodeWith graph (IsTargetNamed name) target
+  pub method_is : IsMethodAbove graph target method
+
+-- A `goto` leads to the label of its NAME (6.8.6.1 p2). Ours: where several nodes have it, to the
+-- least of them, and nowhere where that one is not walked.
 pub record LeadsToLabel (graph : PlainGraph) (method node target : ℕ) : Type 0 where
   pub name : List ℕ
   pub is_goto : IsNodeWith graph (IsGotoOf name) node
-  pub label : IsLeast (IsWalkedWith graph (IsTargetNamed name) method) target
+  pub label : IsLeast (IsLabelIn graph method name) target
+  pub walked : IsWalked graph method target
 
 -- A walked node with the property that belongs to the `switch`: it is the innermost around it
 -- (6.8.4.2 p2).

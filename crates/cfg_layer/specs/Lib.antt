@@ -4,3 +4,4 @@ pub mod Walked
 pub mod Jumps
 pub mod Constructs
 pub mod Plans
+pub mod Tested
