@@ -158,7 +158,7 @@ node_within graph P number h = slice_get_within graph.nodes number h.node h.node
 
 least_is : (test : ℕ → Bool) (P : ℕ → Type 0) → ((x : ℕ) → Tells (test x) (P x)) → (x count : ℕ) → ((y : ℕ) → P y → y < x + count) → ((y : ℕ) → y < x → ¬ (P y)) → Finds (IsLeast P) (least_from test x count)
 unfolding least_from
-least_is test P t x zero high low = λ y p. low y (let h : y < x + 0 = high y p in omega arith) p
+least_is test P t x zero high low = λ y p. low y (let h : y < x + 0 = high y p.is in omega arith) p.is
 least_is test P t x (suc count) high low = by (test x) refl (λ n. least_is test P t (x + 1) count (λ y p. let h : y < x + suc count = high y p in omega arith) (λ y l. below y n (eq-or-lt_of_le (let m : y ≤ x = omega arith in m)))) where
   below : (y : ℕ) → ¬ (P x) → (y ≡ x) ⊎ (y < x) → ¬ (P y)
   below y n (inl e) p = n (subst P e p)
