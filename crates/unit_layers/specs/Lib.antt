@@ -5,3 +5,4 @@ pub mod UnitDeltas
 pub mod Chains
 pub mod Adding
 pub mod Ready
+pub mod PassLaws

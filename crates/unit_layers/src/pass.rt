@@ -18,8 +18,7 @@ impl Pass for UnitPass {
     ghost use Rattle.cpg_schema.specs.Shape.{IsShaped};
     ghost use Rattle.unit_layers.specs.Ready.{IsReady};
     ghost use Rattle.unit_layers.specs.UnitDeltas.{part_delta, unit_parts};
-    ghost use Rattle.unit_layers.proofs.Fits.{units_fit};
-    ghost use Rattle.unit_layers.proofs.Shapes.{units_shape};
+    ghost use Rattle.unit_layers.specs.PassLaws.{parts_fit, parts_shape};
 
     ghost takes = { λ _ graph. IsShaped graph };
 
@@ -51,8 +50,8 @@ impl Pass for UnitPass {
         }
     }
 
-    ghost fits = { λ _ start is_graph shaped. units_fit start shaped is_graph };
+    ghost fits = { λ _ start is_graph shaped. parts_fit start is_graph shaped };
 
     ghost shapes = { λ _ caps start graph is_graph shaped is.
-        units_shape start is_graph shaped caps graph is };
+        parts_shape caps start graph is_graph shaped is };
 }
