@@ -21,7 +21,8 @@ fn plant(planter: &mut Planter, node: &NewNode<'_>) -> Result<(), AllocError>
     ensures { OnOk result ((nodes : List PlainNode) → IsRow planter.old nodes →
         IsRow planter.new (nodes ++ plain_node node.now ∷ [])) }
 {
-    planter.leaf(Hang::Plain, node)
+    planter.leaf(Hang::Plain, node)?;
+    Ok(())
 }
 
 /// The delta that adds the META_DATA.
