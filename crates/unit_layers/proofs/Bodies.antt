@@ -11,7 +11,7 @@ use Rattle.cpg_schema.specs.Shape.{IsAstEdgeAt}
 use Rattle.graph_parts.specs.Finds.{Finds, IsLeast}
 use Rattle.graph_parts.specs.Parts.{HasLabel, IsChildOf, IsChildWith, IsNodeWith}
 use Rattle.graph_parts.specs.NodesAbove.{is_labelled}
-use Rattle.graph_parts.proofs.AboveList.{labelled_is}
+use Rattle.graph_parts.proofs.AboveList.{labelled_is, labelled_test}
 use Rattle.graph_parts.proofs.KindRank.{kind_from_rank}
 use Rattle.graph_parts.proofs.Tree.{child_at}
 use Rattle.unit_layers.specs.UnitEdges.{has_body}
@@ -67,3 +67,33 @@ module _ (graph : PlainGraph) (method : ℕ) where
             at = record { edge = h.at.edge; edge_is = h.at.edge_is; kind = h.at.kind; from = h.at.from; to = h.at.to };
             labelled = h.labelled;
           }
+
+  either : (b c : Bool) → c ≡ true → (b || c) ≡ true
+  either true c is = refl
+  either false c is = is
+
+  passes_at : (edges : List PlainEdge) (position : ℕ) (edge : PlainEdge) → slice_get edges position ≡ Some edge → holds edge ≡ true → list_any holds edges ≡ true
+  passes_at [] position edge is test = cc
+  passes_at (first ∷ edges) zero edge is test = let same : first ≡ edge = cc in let here : holds first ≡ true = ap holds same ∙ test in rw here refl
+  passes_at (first ∷ edges) (suc position) edge is test = either (holds first) (list_any holds edges) (passes_at edges position edge is test)
+
+  test_of : (edge : PlainEdge) → edge.kind ≡ Ast → edge.from ≡ method → is_labelled graph Block edge.to ≡ true → holds edge ≡ true
+  test_of edge kind from labelled =
+      let k : (kind_rank edge.kind == kind_rank Ast) ≡ true = eq-eqb (kind_rank edge.kind) (kind_rank Ast) (ap kind_rank kind) in
+      let f : (edge.from == method) ≡ true = eq-eqb edge.from method from in
+      rw (k, f, labelled) refl
+
+  pub body_is : (found : Option ℕ) → Finds (IsChildOf graph Block method) found → is_some found ≡ has_body graph method
+  body_is None none = by (has_body graph method) refl
+    where
+      by : (t : Bool) → has_body graph method ≡ t → false ≡ has_body graph method
+      by true e =
+          let h = held graph.edges e in
+          absurd
+          (none_least (IsChildWith graph (HasLabel Block) method) none h.child
+          (record { is_child = child_at graph h.position method h.child h.at; is_node = labelled_is graph Block h.child h.labelled }))
+      by false e = sym e
+  body_is (Some child) least =
+      let is = least.is.is_child in
+      let labelled : is_labelled graph Block is.edge.to ≡ true = ap (is_labelled graph Block) is.to_is ∙ labelled_test graph Block child least.is.is_node in
+      sym (passes_at graph.edges is.position is.edge is.edge_is (test_of is.edge is.kind_is is.from_is labelled))

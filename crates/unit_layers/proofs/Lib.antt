@@ -5,3 +5,4 @@ pub mod Fits
 pub mod Counts
 pub mod Steps
 pub mod Chaining
+pub mod Bodies
