@@ -68,7 +68,7 @@ from_start begin lexemes i = ap (slice_get lexemes) (let e : (begin + i) - begin
 
 -- ---- The same lexemes with other numbers
 
-numbered_append : (number : ℕ) (a b : List Lexeme) → numbered number (a ++ b) ≡ numbered number a ++ numbered (number + length a) b
+pub numbered_append : (number : ℕ) (a b : List Lexeme) → numbered number (a ++ b) ≡ numbered number a ++ numbered (number + length a) b
 numbered_append number [] b = ap (λ n. numbered n b) (let e : number ≡ number + 0 = omega arith in e)
 numbered_append number (x ∷ a) b = ap (λ (z : List KeptToken). record { number = number; lexeme = x } ∷ z)
     (numbered_append (number + 1) a b ∙ ap (λ n. numbered (number + 1) a ++ numbered n b) (let e : (number + 1) + length a ≡ number + suc (length a) = omega arith in e))

@@ -13,13 +13,13 @@ use Rattle.expression_trees.specs.Saying.{AreTrees, AreWords}
 use Rattle.expression_trees.specs.Trees.{of_assign, of_expr, of_type_name, of_item}
 use Rattle.expression_trees.specs.Spelling.{AreItsTrees, simplest_exprs}
 use Rattle.expression_trees.specs.Simplest.{IsSimplestExpr}
-use Rattle.expression_trees.specs.ExpressionsAreTrees.{InnerAreTrees, InnerAreWords, AssignsAreTrees, ExprsAreTrees, ExpressionsAreTrees}
+use Rattle.expression_trees.specs.ExpressionsAreTrees.{InnerAreTrees, InnerAreWords, AssignsAreTrees, ExprsAreTrees, contents_by, rules_by, ExpressionsAreTrees}
 use Rattle.expression_trees.proofs.FrontRules.{InnerAdds, adds_whole, adds_expr}
 use Rattle.expression_trees.proofs.BackRules.{InnerBack, whole_back, expr_back}
 use Rattle.expression_trees.proofs.Meaning.{adds_of_trees, trees_of_adds, back_of_words, words_of_back}
 use Rattle.expression_trees.proofs.Simplest.{expr_trees, expr_words}
 use Rattle.expression_trees.proofs.SimplestNumbers.{expr_alike, expr_keeps}
-use Rattle.expression_trees.specs.ExactTrees.{nothing_open}
+use Rattle.expression_trees.specs.ExactTrees.{nothing_open, AreLeveled}
 use Rattle.expression_trees.proofs.Exactly.{exactly, one_tree}
 use Rattle.expression_trees.proofs.Bridge.{are_its_trees}
 
@@ -60,12 +60,21 @@ simplest_words : (level : ℕ) (kind_of : ℕ → Option Kind) (bytes_of : ℕ �
 unfolding expr_events
 simplest_words level kind_of bytes_of depth = expr_words kind_of bytes_of depth level
 
+pub simplest_exprs_are_trees : (level : ℕ) → AreItsTrees (λ turns. expr turns level) simplest_exprs
+simplest_exprs_are_trees level = are_its_trees (λ d. expr d level) simplest_exprs (simplest_trees level) (simplest_words level) (λ turns. expr_alike turns level)
+
+pub simplest_exprs_are_leveled : (level : ℕ) → AreLeveled (λ turns. expr turns level) level
+simplest_exprs_are_leveled level = λ turns scopes word end x. (expr_keeps level turns level nothing_open (omega arith)).keeps scopes word end x
+
 pub expressions_are_trees : ExpressionsAreTrees
 expressions_are_trees = record {
-  assigns = assigns_are_trees;
-  exprs = exprs_are_trees;
-  simplest = λ level. are_its_trees (λ d. expr d level) simplest_exprs (simplest_trees level) (simplest_words level) (λ turns. expr_alike turns level);
-  leveled = λ level turns scopes word end x. (expr_keeps level turns level nothing_open (omega arith)).keeps scopes word end x;
-  exactly = λ rule grammar its level leveled scopes around begin lexemes outcome h. exactly rule grammar its scopes begin level leveled around lexemes outcome h;
-  one_tree = λ rule grammar its once scopes begin lexemes a b x y. one_tree rule grammar its once scopes begin lexemes a b x y;
+  words = λ kind_of bytes_of tests turns level rules h.
+      ((assigns_are_trees kind_of bytes_of (contents_by tests)).trees turns level (rules_by rules) h, (exprs_are_trees kind_of bytes_of (contents_by tests)).trees turns level (rules_by rules) h);
+  trees = λ kind_of bytes_of tests level rules h.
+      ((assigns_are_trees kind_of bytes_of (contents_by tests)).words level (λ d. rules_by (rules d)) h, (exprs_are_trees kind_of bytes_of (contents_by tests)).words level (λ d. rules_by (rules d)) h);
+  simplest = simplest_exprs_are_trees;
+  leveled = simplest_exprs_are_leveled;
+  exactly = λ level scopes around begin lexemes outcome h.
+      exactly (λ turns. expr turns level) simplest_exprs (simplest_exprs_are_trees level) scopes begin level (simplest_exprs_are_leveled level) around lexemes outcome h;
+  one_tree = λ level once scopes begin lexemes a b x y. one_tree (λ turns. expr turns level) simplest_exprs (simplest_exprs_are_trees level) once scopes begin lexemes a b x y;
 }

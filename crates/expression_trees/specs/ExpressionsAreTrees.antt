@@ -1,15 +1,19 @@
 -- That what the rules of expressions read are trees, and that trees are read.
 
-use Rattle.std.specs.Prelude.{ℕ, ◌≡◌, List, Option}
+use Rattle.std.specs.Prelude.{ℕ, ◌≡◌, Bool, true, List, Option}
 use Rattle.c_lexer.specs.declared.token.Kind.{Kind}
 use Rattle.c_scopes.specs.Scopes.{OpenScopes}
+use Rattle.c_tree.specs.declared.tree.TypeName.{TypeName}
+use Rattle.c_tree.specs.declared.tree.InitItem.{InitItem}
+use Rattle.c_tree.specs.declared.tree.Expr.{Expr}
+use Rattle.c_tree.specs.declared.tree.Assign.{Assign}
 use Rattle.c_tree.specs.Lexemes.{Lexeme}
-use Rattle.c_tree.specs.Units.{Grammar, IsTreeOf}
+use Rattle.c_tree.specs.Units.{IsTreeOf}
+use Rattle.reading.specs.Languages.{Leveled}
 use Rattle.reading.specs.Readers.{Outcome}
 use Rattle.reading.specs.Exact.{IsExact}
 use Rattle.c_reading.specs.Kept.{KeptToken, numbered}
 use Rattle.c_reading.specs.Cursors.{Around}
-use Rattle.c_syntax.specs.Scoping.{Part}
 use Rattle.c_tree.specs.Shape.{Inner as Contents}
 use Rattle.c_tree.specs.Expressions.{IsAssign, IsExpr}
 use Rattle.c_syntax.specs.Inner.{Inner}
@@ -57,24 +61,78 @@ module _ (kind_of : ℕ → Option Kind) (bytes_of : ℕ → List ℕ) (inner : 
         AreWords kind_of bytes_of (λ turns. inner_expr turns level ((rules turns).assign))
         (IsExpr kind_of inner) (of_expr kind_of bytes_of)
 
--- Whatever stands in brackets, the rules of expressions read the trees of expressions, if the rules
--- of what stands in brackets read the trees of that. With the simplest contents they do.
-pub record ExpressionsAreTrees : Type 1 where
-  pub assigns : (kind_of : ℕ → Option Kind) (bytes_of : ℕ → List ℕ) (inner : Contents) →
-      AssignsAreTrees kind_of bytes_of inner
-  pub exprs : (kind_of : ℕ → Option Kind) (bytes_of : ℕ → List ℕ) (inner : Contents) →
-      ExprsAreTrees kind_of bytes_of inner
+-- ---- Contents that are decided
+
+-- What is asked of what stands in brackets, by tests.
+pub record Tests : Type 0 where
+  pub assign : Assign → Bool
+  pub type_name : TypeName → Bool
+  pub item : InitItem → Bool
+
+abbrev pub contents_by : Tests → Contents
+contents_by tests = record {
+  IsAssign = λ assign. tests.assign assign ≡ true;
+  IsTypeName = λ type_name. tests.type_name type_name ≡ true;
+  IsItem = λ item. tests.item item ≡ true;
+  IsDeclarator = λ named declarator. ⊥;
+  IsMember = λ declaration. ⊥;
+}
+
+-- Which words, from scopes to scopes, have which value.
+abbrev pub Words : Type 0 → Type 0
+Words A = OpenScopes → List (Leveled KeptToken) → A × OpenScopes → Bool
+
+-- The rules of what stands in brackets, each by its words.
+pub record InnerWords : Type 0 where
+  pub assign : Words Assign
+  pub type_name : Words TypeName
+  pub item : Words InitItem
+
+abbrev pub rules_by : InnerWords → Inner
+rules_by words = record {
+  assign = λ scopes word end. words.assign scopes word end ≡ true;
+  type_name = λ scopes word end. words.type_name scopes word end ≡ true;
+  item = λ scopes word end. words.item scopes word end ≡ true;
+}
+
+-- Whatever stands in brackets, the words of the rules of expressions are trees of expressions, if
+-- the words of what stands in brackets are trees of that.
+abbrev pub WordsAreTrees : Type 0
+WordsAreTrees =
+    (kind_of : ℕ → Option Kind) (bytes_of : ℕ → List ℕ) (tests : Tests) (turns level : ℕ)
+    (rules : InnerWords) → InnerAreTrees kind_of bytes_of (contents_by tests) (rules_by rules) →
+    AreTrees kind_of bytes_of (whole turns level (rules_by rules))
+    (IsAssign kind_of (contents_by tests)) (of_assign kind_of bytes_of) ×
+    AreTrees kind_of bytes_of (inner_expr turns level ((rules_by rules).assign))
+    (IsExpr kind_of (contents_by tests)) (of_expr kind_of bytes_of)
+
+-- And the trees of expressions are words of the rules.
+abbrev pub TreesAreWords : Type 0
+TreesAreWords =
+    (kind_of : ℕ → Option Kind) (bytes_of : ℕ → List ℕ) (tests : Tests) (level : ℕ)
+    (rules : ℕ → InnerWords) →
+    InnerAreWords kind_of bytes_of (contents_by tests) (λ turns. rules_by (rules turns)) →
+    AreWords kind_of bytes_of (λ turns. whole turns level (rules_by (rules turns)))
+    (IsAssign kind_of (contents_by tests)) (of_assign kind_of bytes_of) ×
+    AreWords kind_of bytes_of (λ turns. inner_expr turns level ((rules_by (rules turns)).assign))
+    (IsExpr kind_of (contents_by tests)) (of_expr kind_of bytes_of)
+
+-- ---- The whole
+
+pub record ExpressionsAreTrees : Type 0 where
+  pub words : WordsAreTrees
+  pub trees : TreesAreWords
+  -- With the simplest contents the words are the trees that lists of lexemes spell.
   pub simplest : (level : ℕ) → AreItsTrees (λ turns. expr turns level) simplest_exprs
   pub leveled : (level : ℕ) → AreLeveled (λ turns. expr turns level) level
-  -- Of whatever rule: what is read exactly is the longest run that begins a tree, or the first
-  -- lexeme is blamed with which none begins; and a list of lexemes has at most one tree.
-  pub exactly : {Tree : Type 0} (rule : ℕ → Part Tree) (grammar : Grammar Tree) →
-      AreItsTrees rule grammar → (level : ℕ) → AreLeveled rule level → (scopes : OpenScopes)
-      (around : Around) (begin : ℕ) (lexemes : List Lexeme)
-      (outcome : Outcome KeptToken OpenScopes Around Tree) →
-      IsExact IsToken around (λ turns. rule turns scopes) (numbered begin lexemes) outcome →
-      IsReadExactly grammar scopes around level begin lexemes outcome
-  pub one_tree : {Tree : Type 0} (rule : ℕ → Part Tree) (grammar : Grammar Tree) →
-      AreItsTrees rule grammar → IsUnambiguous rule → (scopes : OpenScopes) (begin : ℕ)
-      (lexemes : List Lexeme) (a b : Tree) → IsTreeOf grammar scopes begin lexemes a →
-      IsTreeOf grammar scopes begin lexemes b → a ≡ b
+  -- What is read exactly is the longest run that begins a tree, or the first lexeme is blamed with
+  -- which none begins.
+  pub exactly : (level : ℕ) (scopes : OpenScopes) (around : Around) (begin : ℕ)
+      (lexemes : List Lexeme) (outcome : Outcome KeptToken OpenScopes Around Expr) →
+      IsExact IsToken around (λ turns. expr turns level scopes) (numbered begin lexemes) outcome →
+      IsReadExactly simplest_exprs scopes around level begin lexemes outcome
+  -- A list of lexemes has at most one tree, where a word has at most one value.
+  pub one_tree : (level : ℕ) → IsUnambiguous (λ turns. expr turns level) → (scopes : OpenScopes)
+      (begin : ℕ) (lexemes : List Lexeme) (a b : Expr) →
+      IsTreeOf simplest_exprs scopes begin lexemes a →
+      IsTreeOf simplest_exprs scopes begin lexemes b → a ≡ b
