@@ -13,7 +13,7 @@ use Rattle.c_reading.specs.Kept.{KeptToken, numbered}
 use Rattle.c_reading.specs.Cursors.{Place, input_at, input_of, by_kind, first_kind, first_spelling, terminal_in}
 use Rattle.c_reading.proofs.InScope.{ahead_in_scope, same_terminals}
 use Rattle.c_syntax.specs.Scoping.{is_typedef_name, terminal_of}
-use Rattle.c_syntax.specs.Sets.{a_name, any_name, a_typedef_name, a_basic_type, a_type}
+use Rattle.c_syntax.specs.Sets.{a_name, any_name, a_typedef_name, a_type_word, a_type}
 use Rattle.c_syntax.proofs.Typedefs.{is_typedef_name_says}
 
 -- ---- Sets without names
@@ -162,6 +162,6 @@ union_at set other at [] scopes = refl
 union_at set other at (lexeme ∷ left) scopes = has_union set other (terminal_of scopes (record { number = at; lexeme = lexeme }))
 
 pub type_ahead : (place : Place) (scopes : OpenScopes) → is_ahead terminal_of a_type (input_at place scopes)
-    ≡ (is_ahead terminal_of a_typedef_name (input_at place scopes) || is_ahead terminal_of a_basic_type (input_at place scopes))
+    ≡ (is_ahead terminal_of a_typedef_name (input_at place scopes) || is_ahead terminal_of a_type_word (input_at place scopes))
 unfolding input_at
-type_ahead place scopes = union_at a_typedef_name a_basic_type place.at place.left scopes
+type_ahead place scopes = union_at a_typedef_name a_type_word place.at place.left scopes

@@ -1,13 +1,13 @@
 -- Expressions are read exactly (C11 6.5), a term a rule.
 
-use Rattle.std.proofs.Common.{◌≡◌, inl, inr, ℕ, zero, suc, ◌-◌, ◌<◌, Bool, true, false, List, [], ◌∷◌, ◌++◌, refl, sym, ap, subst, append-nil, arith}
+use Rattle.std.proofs.Common.{◌≡◌, inl, inr, ℕ, suc, ◌-◌, ◌<◌, Bool, true, false, List, [], ◌∷◌, ◌++◌, refl, sym, ap, subst, append-nil, arith}
 use Rattle.c_lexer.specs.declared.token.Kind.TheVariants.{Word, Key, Number, Text, Mark}
 use Rattle.c_lexer.specs.declared.keyword.TheConstants.{KEY_SIZEOF, KEY_ALIGNOF}
 use Rattle.c_lexer.specs.declared.mark.TheConstants.{MARK_LEFT_BRACKET, MARK_RIGHT_BRACKET}
 use Rattle.c_lexer.specs.declared.mark.TheConstants.{MARK_LEFT_PAREN, MARK_RIGHT_PAREN}
 use Rattle.c_lexer.specs.declared.mark.TheConstants.{MARK_LEFT_BRACE, MARK_RIGHT_BRACE}
 use Rattle.c_lexer.specs.declared.mark.TheConstants.{MARK_DOT, MARK_ARROW, MARK_COMMA, MARK_EQUAL}
-use Rattle.c_lexer.specs.declared.mark.TheConstants.{MARK_QUESTION, MARK_COLON, MARK_STAR, MARK_PLUS_PLUS}
+use Rattle.c_lexer.specs.declared.mark.TheConstants.{MARK_QUESTION, MARK_COLON, MARK_STAR, MARK_PLUS_PLUS, MARK_PLUS}
 use Rattle.c_tree.specs.declared.tree.TypeName.{TypeName}
 use Rattle.c_tree.specs.declared.tree.Assign.{Assign}
 use Rattle.c_tree.specs.declared.tree.Prefixed.{Prefixed}
@@ -20,15 +20,14 @@ use Rattle.reading.specs.declared.turn.Turn.{Turn}
 use Rattle.reading.specs.declared.turn.Turn.TheVariants.{Again, Done}
 use Rattle.reading.specs.Terminals.{is_within, are_disjoint}
 use Rattle.reading.specs.Languages.{Leveled}
-use Rattle.reading.specs.Rules.{◌>>=◌, ◌or◌, pure}
+use Rattle.reading.specs.Rules.{◌or◌, pure}
 use Rattle.reading.specs.Readers as reader
 use Rattle.reading.specs.Readers.{branch, and_then}
-use Rattle.reading.proofs.Sets.{within_itself}
-use Rattle.reading.proofs.Words.{Some}
+use Rattle.reading.proofs.Sets.{within_itself, disjoint_part}
 use Rattle.reading.proofs.ReadBy.{Stage, Nullable, no, keeping, read_pure, read_weaker, read_given}
 use Rattle.reading.proofs.ReadOne.{HasRoom, room_inside}
-use Rattle.reading.proofs.ReadThen.{read_then, read_then_at, read_join, read_token, read_map}
-use Rattle.reading.proofs.ReadEither.{read_either, read_optional}
+use Rattle.reading.proofs.ReadThen.{goes_on, read_then, read_then_at, read_join, read_token, read_map}
+use Rattle.reading.proofs.ReadEither.{read_either, read_chosen, read_optional}
 use Rattle.reading.proofs.ReadSteps.{read_many, read_many_tokens}
 use Rattle.reading.proofs.ReadTurns.{Ending, by_turn, read_repeat}
 use Rattle.reading.proofs.ReadGuarded.{read_guarded}
@@ -44,21 +43,23 @@ use Rattle.c_syntax.specs.declared.forms.Mode.TheVariants.{Cast, Literal, Size}
 use Rattle.c_syntax.specs.declared.forms.Chain.{Chain}
 use Rattle.c_syntax.specs.declared.forms.Found.{Found}
 use Rattle.c_syntax.specs.declared.forms.Found.TheVariants.{Operand, Sized}
-use Rattle.c_syntax.specs.Scoping.{Part, PartReader, terminal_of}
+use Rattle.c_syntax.specs.Scoping.{Part, terminal_of}
 use Rattle.c_syntax.specs.Sets.{a_name, any_name, a_constant, a_step, a_unary, a_binary, a_type, a_suffix, an_assignment}
 use Rattle.c_syntax.specs.Forms.{one_part, with_part, expr_of, call_of, one_item, with_item, with_mark, compound_of, flushed, chain_start, with_op, with_size, with_cast}
 use Rattle.c_syntax.specs.Forms.{prefixed_of, is_target, begun_of, binary_of, arms_start, with_arm, assign_of}
 use Rattle.c_syntax.specs.ExpressionRules as lang
 use Rattle.c_syntax.specs.ExpressionReaders as read
 use Rattle.c_syntax.proofs.Readings.{Tokens, IsRead, sample}
-use Rattle.c_syntax.proofs.TypeNamesAreRead.{after_type, type_name_is_read}
+use Rattle.c_syntax.specs.Inner.{Inner, InnerReaders}
+use Rattle.c_lexer.specs.declared.keyword.TheConstants.{KEY_ATOMIC}
+use Rattle.c_syntax.specs.declared.forms.AssignForm.{AssignForm}
+use Rattle.c_syntax.specs.declared.forms.AssignForm.TheVariants.{Whole, Constant, Unstarred, Bare, Behind}
+use Rattle.c_syntax.specs.Sets.{other_unary, begins_specifier, a_plain_qualifier, begins_assign, an_item}
 
 -- ---- First sets, and what goes on behind a part
 
 abbrev pub begins_operand : List ℕ
-begins_operand =
-    a_unary ++ a_step ++ (key KEY_SIZEOF ∷ []) ++ (key KEY_ALIGNOF ∷ []) ++ (mark MARK_LEFT_PAREN ∷ []) ++
-    a_name ++ a_constant ++ (TEXT ∷ [])
+begins_operand = begins_assign Whole
 
 abbrev brace : List ℕ
 brace = mark MARK_LEFT_BRACE ∷ []
@@ -84,6 +85,12 @@ after_assign = an_assignment ++ after_cond
 abbrev pub after_expr : List ℕ
 after_expr = mark MARK_COMMA ∷ after_assign
 
+-- Behind a type name.
+abbrev pub after_type : List ℕ
+after_type =
+    brace ++ (mark MARK_LEFT_PAREN ∷ []) ++ (key KEY_ATOMIC ∷ begins_specifier ++ a_plain_qualifier) ++
+    (mark MARK_STAR ∷ a_plain_qualifier ++ key KEY_ATOMIC ∷ []) ++ mark MARK_LEFT_BRACKET ∷ mark MARK_LEFT_PAREN ∷ []
+
 abbrev nothing : {A : Type 0} → A → List ℕ
 nothing a = []
 
@@ -91,11 +98,22 @@ nothing a = []
 abbrev after_link : Turn Chain Found → List ℕ
 after_link = by_turn brace (λ found. after_form)
 
+-- What stands in brackets is read exactly. Type names and items may begin with fewer tokens than those
+-- of declarations do.
+pub record InnerAreRead (tokens : Tokens) (stage : Stage) (given : Type 0) (inner : ℕ → Inner) (readers : InnerReaders) : Type 0 where
+  pub begins_type : List ℕ
+  pub begins_item : List ℕ
+  pub types : is_within begins_type a_type ≡ true
+  pub items : is_within begins_item an_item ≡ true
+  pub assign : IsRead tokens stage given (λ d. (inner d).assign) readers.assign no begins_operand (λ a. after_assign)
+  pub type_name : IsRead tokens stage given (λ d. (inner d).type_name) readers.type_name no begins_type (λ a. after_type)
+  pub item : IsRead tokens stage given (λ d. (inner d).item) readers.item no begins_item (λ a. after_assign)
+
 module _ (tokens : Tokens) where
   -- ---- Assignment expressions and commas (6.5.17)
 
-  module _ {stage : Stage} {level : ℕ} (room : ℕ) (fits : HasRoom stage level (room - 1)) (inner : ℕ → Part Assign) (read_inner : PartReader Assign)
-      {holds : Type 0} (there : 0 < room - 1 → holds) (ri : IsRead tokens stage holds inner read_inner no begins_operand (λ a. after_assign)) where
+  module _ {stage : Stage} {level : ℕ} (room : ℕ) (fits : HasRoom stage level (room - 1)) (inner : ℕ → Part Assign) (read_inner : InnerReaders)
+      {holds : Type 0} (there : 0 < room - 1 → holds) (ri : IsRead tokens stage holds inner read_inner.assign no begins_operand (λ a. after_assign)) where
     all_parts_are_read : {given : Type 0} (parts : Parts) →
         IsRead tokens stage given (λ d. lang.all_parts d level (inner d) parts) (read.all_parts room read_inner parts) keeping (mark MARK_COMMA ∷ []) (λ a. after_expr)
     unfolding lang.all_parts lang.more_parts read.all_parts read.more_parts
@@ -120,19 +138,22 @@ module _ (tokens : Tokens) where
 
   -- ---- Tokens of a level, with assignment expressions one level deeper
 
-  module _ {stage : Stage} {level room : ℕ} (fits : HasRoom stage level room) (inner : ℕ → Part Assign) (read_inner : PartReader Assign)
-      (ri : IsRead tokens stage (0 < room) inner read_inner no begins_operand (λ a. after_assign)) where
+  module _ {stage : Stage} {level room : ℕ} (fits : HasRoom stage level room) (inner : ℕ → Inner) (read_inner : InnerReaders)
+      (rs : InnerAreRead tokens stage (0 < room) inner read_inner) where
+    items_apart : (set : List ℕ) → are_disjoint an_item set ≡ true → are_disjoint rs.begins_item set ≡ true
+    items_apart set h = disjoint_part rs.begins_item an_item set rs.items h
+
     deeper : HasRoom stage (suc level) (room - 1)
     deeper = room_inside fits
 
     there : 0 < room - 1 → 0 < room
     there h = omega arith
 
-    inside_parts : (marks : List ℕ) → IsRead tokens stage (0 < room) (λ d. lang.parts d (suc level) (inner d) marks) (read.parts room read_inner marks) no begins_operand (λ a. after_expr)
-    inside_parts marks = parts_are_read room deeper inner read_inner there ri marks
+    inside_parts : (marks : List ℕ) → IsRead tokens stage (0 < room) (λ d. lang.parts d (suc level) ((inner d).assign) marks) (read.parts room read_inner marks) no begins_operand (λ a. after_expr)
+    inside_parts marks = parts_are_read room deeper (λ d. (inner d).assign) read_inner there rs.assign marks
 
-    inside : IsRead tokens stage (0 < room) (λ d. lang.inner_expr d (suc level) (inner d)) (read.inner_expr room read_inner) no begins_operand (λ a. after_expr)
-    inside = inner_expr_is_read room deeper inner read_inner there ri
+    inside : IsRead tokens stage (0 < room) (λ d. lang.inner_expr d (suc level) ((inner d).assign)) (read.inner_expr room read_inner) no begins_operand (λ a. after_expr)
+    inside = inner_expr_is_read room deeper (λ d. (inner d).assign) read_inner there rs.assign
 
     -- ---- Suffixes (6.5.2)
 
@@ -195,16 +216,16 @@ module _ (tokens : Tokens) where
         (read_token deeper (sample tokens (mark MARK_RIGHT_BRACE ∷ []) (Mark MARK_RIGHT_BRACE) refl refl refl) (λ r. read_pure (Done (with_mark items r))))
 
     next_item_is_read : (items : Items) (comma : ℕ) →
-        IsRead tokens stage (0 < room - 1) (λ d. lang.next_item d level (inner d) items comma) (read.next_item room read_inner items comma) no begins_operand (by_turn after_assign nothing)
+        IsRead tokens stage (0 < room - 1) (λ d. lang.next_item d level (inner d) items comma) (read.next_item room read_inner items comma) no rs.begins_item (by_turn after_assign nothing)
     unfolding lang.next_item read.next_item
-    next_item_is_read items comma = read_map (λ a. Again (with_item items comma a)) (by_turn after_assign nothing) (read_given there ri) (λ a. refl)
+    next_item_is_read items comma = read_map (λ a. Again (with_item items comma a)) (by_turn after_assign nothing) (read_given there rs.item) (λ a. refl)
 
     comma_item_is_read : {given : Type 0} (items : Items) →
         IsRead tokens stage given (λ d. lang.comma_item d level (inner d) items) (read.comma_item room read_inner items) no (mark MARK_COMMA ∷ []) (by_turn after_assign nothing)
     unfolding lang.comma_item read.comma_item
     comma_item_is_read items =
         read_token deeper (sample tokens (mark MARK_COMMA ∷ []) (Mark MARK_COMMA) refl refl refl)
-        (λ m. read_either (last_item_is_read (with_mark items m)) (next_item_is_read items m) refl)
+        (λ m. read_either (last_item_is_read (with_mark items m)) (next_item_is_read items m) (items_apart (mark MARK_RIGHT_BRACE ∷ []) refl))
 
     item_is_read : {given : Type 0} (items : Items) →
         IsRead tokens stage given (λ d. lang.item d level (inner d) items) (read.item room read_inner items) no (mark MARK_COMMA ∷ mark MARK_RIGHT_BRACE ∷ []) (by_turn after_assign nothing)
@@ -240,7 +261,7 @@ module _ (tokens : Tokens) where
     unfolding lang.compound read.compound
     compound_is_read named marks =
         read_token deeper (sample tokens brace (Mark MARK_LEFT_BRACE) refl refl refl)
-        (λ b. read_then nothing (read_given there ri)
+        (λ b. read_then nothing (read_given there rs.item)
         (λ a. read_map (compound_of named) nothing (all_items_are_read (one_item a (marks ++ b ∷ []))) (λ i. refl))
         (λ a. refl) (λ i. refl) (λ a i. refl))
 
@@ -270,10 +291,10 @@ module _ (tokens : Tokens) where
     typed_at_is_read chain named marks (Size n) =
         maybe_compound_is_read (flushed (Size n) chain.prefixes) named marks (Done (Sized chain.prefixes (form.SizeType n named marks))) refl
 
-    typed_is_read : (chain : Chain) (l : ℕ) → IsRead tokens stage (0 < room - 1) (λ d. lang.typed d level (inner d) chain l) (read.typed room read_inner chain l) no a_type after_link
+    typed_is_read : (chain : Chain) (l : ℕ) → IsRead tokens stage (0 < room - 1) (λ d. lang.typed d level (inner d) chain l) (read.typed room read_inner chain l) no rs.begins_type after_link
     unfolding lang.typed read.typed
     typed_is_read chain l =
-        read_then after_link (type_name_is_read tokens deeper)
+        read_then after_link (read_given there rs.type_name)
         (λ t. read_token deeper (sample tokens (mark MARK_RIGHT_PAREN ∷ []) (Mark MARK_RIGHT_PAREN) refl refl refl) (λ r. typed_at_is_read chain t (l ∷ r ∷ []) chain.mode))
         (λ a. refl) (λ b. within_itself (after_link b)) (λ a b. refl)
 
@@ -287,14 +308,14 @@ module _ (tokens : Tokens) where
     paren_is_read : {given : Type 0} (chain : Chain) → IsRead tokens stage given (λ d. lang.paren d level (inner d) chain) (read.paren room read_inner chain) no (mark MARK_LEFT_PAREN ∷ []) after_link
     unfolding lang.paren read.paren
     paren_is_read chain =
-        read_token deeper (sample tokens (mark MARK_LEFT_PAREN ∷ []) (Mark MARK_LEFT_PAREN) refl refl refl) (λ l. read_either (typed_is_read chain l) (grouped_is_read chain l) refl)
+        read_token deeper (sample tokens (mark MARK_LEFT_PAREN ∷ []) (Mark MARK_LEFT_PAREN) refl refl refl) (λ l. read_chosen a_type (typed_is_read chain l) (grouped_is_read chain l) rs.types refl)
 
     aligned_is_read : {given : Type 0} (chain : Chain) → IsRead tokens stage given (λ d. lang.aligned d level (inner d) chain) (read.aligned room read_inner chain) no (key KEY_ALIGNOF ∷ []) after_link
     unfolding lang.aligned read.aligned
     aligned_is_read chain =
         read_token fits (sample tokens (key KEY_ALIGNOF ∷ []) (Key KEY_ALIGNOF) refl refl refl)
         (λ n. read_token deeper (sample tokens (mark MARK_LEFT_PAREN ∷ []) (Mark MARK_LEFT_PAREN) refl refl refl)
-        (λ l. read_then after_link (type_name_is_read tokens deeper)
+        (λ l. read_then after_link (read_given there rs.type_name)
         (λ t. read_token deeper (sample tokens (mark MARK_RIGHT_PAREN ∷ []) (Mark MARK_RIGHT_PAREN) refl refl refl)
         (λ r. read_pure (Done (Sized (flushed chain.mode chain.prefixes) (form.SizeType n t (l ∷ r ∷ [])))))) (λ a. refl) (λ b. refl) (λ a b. refl)))
 
@@ -363,9 +384,9 @@ module _ (tokens : Tokens) where
           })))))));
         }
 
-    links_are_read : {given : Type 0} → IsRead tokens stage given (λ d. lang.links d level (inner d)) (read.links room read_inner) no begins_operand (λ a. after_form)
+    links_are_read : {given : Type 0} (chain : Chain) → IsRead tokens stage given (λ d. lang.links d level (inner d) chain) (read.links room read_inner chain) no begins_operand (λ a. after_form)
     unfolding lang.links read.links
-    links_are_read = read_repeat brace (λ found. after_form) link_is_read refl link_ends chain_start
+    links_are_read chain = read_repeat brace (λ found. after_form) link_is_read refl link_ends chain
 
     all_suffixes_are_read : {given : Type 0} → IsRead tokens stage given (λ d. lang.all_suffixes d level (inner d)) (read.all_suffixes room read_inner) keeping a_suffix (λ a. a_suffix)
     unfolding lang.all_suffixes read.all_suffixes
@@ -385,7 +406,7 @@ module _ (tokens : Tokens) where
 
     prefixed_is_read : {given : Type 0} → IsRead tokens stage given (λ d. lang.prefixed d level (inner d)) (read.prefixed room read_inner) no begins_operand (λ a. after_operand)
     unfolding lang.prefixed read.prefixed
-    prefixed_is_read = read_then (λ b. after_operand) links_are_read finished_is_read form_apart (λ b. refl) (λ a b. refl)
+    prefixed_is_read = read_then (λ b. after_operand) (links_are_read chain_start) finished_is_read form_apart (λ b. refl) (λ a b. refl)
 
     -- ---- Operators (6.5.5 to 6.5.16)
 
@@ -476,14 +497,130 @@ module _ (tokens : Tokens) where
           };
         }
 
-    targets_are_read : {given : Type 0} → IsRead tokens stage given (λ d. lang.targets d level (inner d)) (read.targets room read_inner) no begins_operand (λ b. after_target)
+    targets_are_read : {given : Type 0} (targets : List (Prefixed × ℕ)) →
+        IsRead tokens stage given (λ d. lang.targets d level (inner d) targets) (read.targets room read_inner targets) no begins_operand (λ b. after_target)
     unfolding lang.targets read.targets
-    targets_are_read = read_repeat an_assignment (λ b. after_target) target_is_read refl target_ends []
+    targets_are_read targets = read_repeat an_assignment (λ b. after_target) target_is_read refl target_ends targets
+
+    pub rest_of_is_read : {given : Type 0} (begun : Begun) →
+        IsRead tokens stage given (λ d. lang.rest_of d level (inner d) begun) (read.rest_of room read_inner begun) keeping (a_binary ++ mark MARK_QUESTION ∷ []) (λ a. after_cond)
+    unfolding lang.rest_of read.rest_of
+    rest_of_is_read begun =
+        read_join (λ b. after_cond) (binary_is_read begun.first)
+        (λ b. read_map (assign_of begun.targets) (λ a. after_cond) (all_arms_are_read (arms_start b)) (λ a. refl)) (λ a. refl) (λ b. refl) (λ a b. refl)
 
     pub whole_is_read : {given : Type 0} → IsRead tokens stage given (λ d. lang.whole d level (inner d)) (read.whole room read_inner) no begins_operand (λ a. after_assign)
     unfolding lang.whole read.whole
-    whole_is_read =
-        read_then (λ b. after_assign) targets_are_read
-        (λ begun. read_join (λ b. after_cond) (binary_is_read begun.first)
-        (λ b. read_map (assign_of begun.targets) (λ a. after_cond) (all_arms_are_read (arms_start b)) (λ a. refl)) (λ a. refl) (λ b. refl) (λ a b. refl))
-        (λ a. refl) (λ b. refl) (λ a b. refl)
+    whole_is_read = read_then (λ b. after_assign) (targets_are_read []) rest_of_is_read (λ a. refl) (λ b. refl) (λ a b. refl)
+
+    -- ---- Constant expressions (6.6), and those that begin otherwise
+
+    pub constant_expr_is_read : {given : Type 0} →
+        IsRead tokens stage given (λ d. lang.constant_expr d level (inner d)) (read.constant_expr room read_inner) no begins_operand (λ a. after_cond)
+    unfolding lang.constant_expr read.constant_expr
+    constant_expr_is_read = read_then (λ b. after_cond) prefixed_is_read (λ p. rest_of_is_read (begun_of [] p)) (λ a. refl) (λ b. refl) (λ a b. refl)
+
+    other_operator_is_read : {given : Type 0} (chain : Chain) → IsRead tokens stage given (λ d. lang.other_operator d level (inner d) chain) (read.other_operator room read_inner chain) no other_unary after_link
+    unfolding lang.other_operator read.other_operator
+    other_operator_is_read chain =
+        read_weaker after_link (λ g. g) (λ a. refl)
+        (read_token fits (sample tokens other_unary (Mark MARK_PLUS) refl refl refl) (λ n. read_pure (Again (with_op chain n Cast))))
+
+    bare_link_is_read : {given : Type 0} (chain : Chain) → IsRead tokens stage given (λ d. lang.bare_link d level (inner d) chain) (read.bare_link room read_inner chain) no (begins_assign Bare) after_link
+    unfolding lang.bare_link read.bare_link
+    bare_link_is_read chain =
+        read_either (other_operator_is_read chain) (read_either (stepped_is_read chain) (read_either (sized_is_read chain) (read_either (aligned_is_read chain)
+        (primary_is_read chain) refl) refl) refl) refl
+
+    unstarred_link_is_read : {given : Type 0} (chain : Chain) →
+        IsRead tokens stage given (λ d. lang.unstarred_link d level (inner d) chain) (read.unstarred_link room read_inner chain) no (begins_assign Unstarred) after_link
+    unfolding lang.unstarred_link read.unstarred_link
+    unstarred_link_is_read chain =
+        read_either (other_operator_is_read chain) (read_either (stepped_is_read chain) (read_either (sized_is_read chain) (read_either (aligned_is_read chain)
+        (read_either (paren_is_read chain) (primary_is_read chain) refl) refl) refl) refl) refl
+
+    first_link_is_read : {given : Type 0} (which : AssignForm) →
+        IsRead tokens stage given (λ d. lang.first_link d level (inner d) which) (read.first_link room read_inner which) no (begins_assign which) after_link
+    unfolding lang.first_link read.first_link
+    first_link_is_read Whole = link_is_read chain_start
+    first_link_is_read Constant = link_is_read chain_start
+    first_link_is_read Unstarred = unstarred_link_is_read chain_start
+    first_link_is_read Bare = bare_link_is_read chain_start
+    first_link_is_read (Behind star) = link_is_read (with_op chain_start star Cast)
+
+    abbrev null_turn : {S A : Type 0} → Turn S A → Nullable
+    null_turn (Again s) = no
+    null_turn (Done a) = keeping
+
+    abbrev first_turn : {S A : Type 0} → Turn S A → List ℕ
+    first_turn (Again s) = begins_operand
+    first_turn (Done a) = []
+
+    links_behind_is_read : {given : Type 0} (turn : Turn Chain Found) →
+        IsRead tokens stage given (λ d. lang.links_behind d level (inner d) turn) (read.links_behind room read_inner turn) (null_turn turn) (first_turn turn) (λ found. after_form)
+    unfolding lang.links_behind read.links_behind
+    links_behind_is_read (Again chain) = links_are_read chain
+    links_behind_is_read (Done found) = read_weaker (λ found. after_form) (λ g. g) (λ a. refl) (read_pure found)
+
+    targets_behind_is_read : {given : Type 0} (turn : Turn (List (Prefixed × ℕ)) Begun) →
+        IsRead tokens stage given (λ d. lang.targets_behind d level (inner d) turn) (read.targets_behind room read_inner turn) (null_turn turn) (first_turn turn) (λ b. after_target)
+    unfolding lang.targets_behind read.targets_behind
+    targets_behind_is_read (Again targets) = targets_are_read targets
+    targets_behind_is_read (Done begun) = read_weaker (λ b. after_target) (λ g. g) (λ a. refl) (read_pure begun)
+
+    link_apart : (turn : Turn Chain Found) → are_disjoint (after_link turn) (first_turn turn) ≡ true
+    link_apart (Again chain) = refl
+    link_apart (Done found) = refl
+
+    link_goes_on : (turn : Turn Chain Found) (found : Found) → goes_on (null_turn turn) (after_link turn) after_form ≡ true
+    link_goes_on (Again chain) found = refl
+    link_goes_on (Done end) found = refl
+
+    abbrev after_first_target : Turn (List (Prefixed × ℕ)) Begun → List ℕ
+    after_first_target = by_turn an_assignment (λ b. after_target)
+
+    targets_apart : (turn : Turn (List (Prefixed × ℕ)) Begun) → are_disjoint (after_first_target turn) (first_turn turn) ≡ true
+    targets_apart (Again targets) = refl
+    targets_apart (Done begun) = refl
+
+    targets_go_on : (turn : Turn (List (Prefixed × ℕ)) Begun) (begun : Begun) → goes_on (null_turn turn) (after_first_target turn) after_target ≡ true
+    targets_go_on (Again targets) begun = refl
+    targets_go_on (Done end) begun = refl
+
+    module _ (which : AssignForm) where
+      first_found_is_read : {given : Type 0} →
+          IsRead tokens stage given (λ d. lang.first_found d level (inner d) which) (read.first_found room read_inner which) no (begins_assign which) (λ found. after_form)
+      unfolding lang.first_found read.first_found
+      first_found_is_read = read_then (λ found. after_form) (first_link_is_read which) links_behind_is_read link_apart (λ b. refl) link_goes_on
+
+      first_prefixed_is_read : {given : Type 0} →
+          IsRead tokens stage given (λ d. lang.first_prefixed d level (inner d) which) (read.first_prefixed room read_inner which) no (begins_assign which) (λ a. after_operand)
+      unfolding lang.first_prefixed read.first_prefixed
+      first_prefixed_is_read = read_then (λ b. after_operand) first_found_is_read finished_is_read form_apart (λ b. refl) (λ a b. refl)
+
+      first_target_is_read : {given : Type 0} →
+          IsRead tokens stage given (λ d. lang.first_target d level (inner d) which) (read.first_target room read_inner which) no (begins_assign which) after_first_target
+      unfolding lang.first_target read.first_target
+      first_target_is_read =
+          read_then_at after_first_target first_prefixed_is_read (λ p. target_at_is_read [] p (is_target p)) (λ p. target_apart (is_target p)) after_targets
+          (λ d scopes p end x. subst (λ z. is_within after_operand (after_first_target z) ≡ true) (sym (ends_at d [] p (is_target p) scopes end x)) refl)
+
+      first_targets_is_read : {given : Type 0} →
+          IsRead tokens stage given (λ d. lang.first_targets d level (inner d) which) (read.first_targets room read_inner which) no (begins_assign which) (λ b. after_target)
+      unfolding lang.first_targets read.first_targets
+      first_targets_is_read = read_then (λ b. after_target) first_target_is_read targets_behind_is_read targets_apart (λ b. refl) targets_go_on
+
+      first_assign_is_read : {given : Type 0} →
+          IsRead tokens stage given (λ d. lang.first_assign d level (inner d) which) (read.first_assign room read_inner which) no (begins_assign which) (λ a. after_assign)
+      unfolding lang.first_assign read.first_assign
+      first_assign_is_read = read_then (λ b. after_assign) first_targets_is_read rest_of_is_read (λ a. refl) (λ b. refl) (λ a b. refl)
+
+    -- An assignment expression of the form is read exactly, where what it holds in brackets is.
+    pub formed_is_read : {given : Type 0} (which : AssignForm) →
+        IsRead tokens stage given (λ d. lang.formed d level (inner d) which) (read.formed room read_inner which) no (begins_assign which) (λ a. after_assign)
+    unfolding lang.formed read.formed
+    formed_is_read Whole = whole_is_read
+    formed_is_read Constant = read_weaker (λ a. after_assign) (λ g. g) (λ a. refl) constant_expr_is_read
+    formed_is_read Unstarred = first_assign_is_read Unstarred
+    formed_is_read Bare = first_assign_is_read Bare
+    formed_is_read (Behind star) = first_assign_is_read (Behind star)

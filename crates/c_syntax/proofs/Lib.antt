@@ -1,6 +1,7 @@
 pub mod Typedefs
 pub mod Ahead
 pub mod Readings
+pub mod Lexemes
 pub mod TypeNamesAreRead
 pub mod ExpressionsAreRead
-pub mod WholeExpressions
+pub mod SimplestAreRead

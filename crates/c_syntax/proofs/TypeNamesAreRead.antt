@@ -1,12 +1,11 @@
 -- Type names are read exactly (C11 6.7.7).
 
-use Rattle.std.proofs.Common.{◌≡◌, ℕ, ◌<◌, List, [], ◌∷◌, ◌++◌, refl}
+use Rattle.std.proofs.Common.{ℕ, List, [], ◌∷◌, ◌++◌, refl}
 use Rattle.c_lexer.specs.declared.token.Kind.TheVariants.{Key, Mark}
 use Rattle.c_lexer.specs.declared.keyword.TheConstants.{KEY_INT}
 use Rattle.c_lexer.specs.declared.mark.TheConstants.{MARK_STAR}
 use Rattle.c_tree.specs.declared.tree.Spec.{Spec}
 use Rattle.c_tree.specs.declared.tree.Spec.TheVariants as spec
-use Rattle.reading.specs.Readers.{many}
 use Rattle.reading.proofs.ReadBy.{Stage, no, keeping, read_pure}
 use Rattle.reading.proofs.ReadOne.{HasRoom}
 use Rattle.reading.proofs.ReadThen.{read_then, read_token, read_map}
@@ -14,7 +13,7 @@ use Rattle.reading.proofs.ReadSteps.{read_many_tokens}
 use Rattle.reading.proofs.ReadGuarded.{read_guarded}
 use Rattle.c_reading.specs.Terminals.{mark}
 use Rattle.c_reading.specs.Cursors.{number_of}
-use Rattle.c_syntax.specs.Sets.{a_typedef_name, a_basic_type, a_type}
+use Rattle.c_syntax.specs.Sets.{a_typedef_name, a_basic_type}
 use Rattle.c_syntax.specs.Forms.{pointer, type_name_of}
 use Rattle.c_syntax.specs.TypeNameRules as lang
 use Rattle.c_syntax.specs.TypeNameReaders as read
@@ -35,7 +34,7 @@ module _ (tokens : Tokens) {stage : Stage} {level room : ℕ} (fits : HasRoom st
   unfolding lang.basic read.basic
   basic_is_read = read_token fits (sample tokens a_basic_type (Key KEY_INT) refl refl refl) (λ n. more_words_are_read (spec.Basic n ∷ []))
 
-  words_are_read : {given : Type 0} → IsRead tokens stage given (λ d. lang.words d level) (read.words room) no a_type (λ a. a_basic_type)
+  words_are_read : {given : Type 0} → IsRead tokens stage given (λ d. lang.words d level) (read.words room) no (a_typedef_name ++ a_basic_type) (λ a. a_basic_type)
   unfolding lang.words lang.named read.words read.named
   words_are_read =
       read_guarded a_typedef_name number_of (λ a. a_basic_type) fits (λ n. read_pure (spec.Named n ∷ [])) basic_is_read refl (λ a. refl) (λ a. refl) (λ d scope end y. refl)
@@ -46,7 +45,7 @@ module _ (tokens : Tokens) {stage : Stage} {level room : ℕ} (fits : HasRoom st
       read_many_tokens number_of [] (mark MARK_STAR ∷ []) fits (sample tokens (mark MARK_STAR ∷ []) (Mark MARK_STAR) refl refl refl) (λ s n. read_pure (s ++ pointer n ∷ []))
       refl refl refl []
 
-  pub type_name_is_read : {given : Type 0} → IsRead tokens stage given (λ d. lang.type_name d level) (read.type_name room) no a_type (λ a. after_type)
+  pub type_name_is_read : {given : Type 0} → IsRead tokens stage given (λ d. lang.type_name d level) (read.type_name room) no (a_typedef_name ++ a_basic_type) (λ a. after_type)
   unfolding lang.type_name read.type_name
   type_name_is_read =
       read_then (λ a. after_type) words_are_read (λ words. read_map (type_name_of words) (λ a. mark MARK_STAR ∷ []) stars_are_read (λ a. refl))

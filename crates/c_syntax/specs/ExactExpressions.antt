@@ -1,24 +1,26 @@
 -- When expressions are read exactly.
 
 use Rattle.std.specs.Prelude.{ℕ, suc, ◌+◌, ◌≤◌, List}
+use Rattle.c_lexer.specs.Lexemes.{IsLexeme}
 use Rattle.c_scopes.specs.Scopes.{OpenScopes}
 use Rattle.reading.specs.Readers.{Input}
 use Rattle.reading.specs.Exact.{HIGHEST_LEVEL, room_on, IsExact}
 use Rattle.c_reading.specs.Kept.{KeptToken}
 use Rattle.c_reading.specs.Cursors.{Around}
-use Rattle.c_syntax.specs.ExpressionReaders as read
-use Rattle.c_syntax.specs.ExpressionRules as rule
+use Rattle.c_syntax.specs.SimplestReaders as read
+use Rattle.c_syntax.specs.SimplestRules as rule
 
--- For now a completion may have any tokens.
-abbrev pub IsAny : KeptToken → Type 0
-IsAny token = Prim.Unit {0}
+-- A token that a text can have.
+abbrev pub IsToken : KeptToken → Type 0
+IsToken token = IsLexeme token.lexeme
 
 abbrev pub from_tokens : Around → OpenScopes → List KeptToken → Input KeptToken OpenScopes Around
 from_tokens around scopes left = record { tokens = left; scope = scopes; around = around }
 
--- Of whatever tokens, in each scope and on each level, the reader takes what the rule says.
+-- Of whatever tokens, in each scope and on each level, the reader takes what the rule says. What is
+-- refused could have gone on with tokens of a text.
 abbrev pub ExpressionsAreExact : Type 0
 ExpressionsAreExact =
     (around : Around) (level : ℕ) → level ≤ HIGHEST_LEVEL + 1 → (scopes : OpenScopes) →
-    (left : List KeptToken) → IsExact IsAny around (λ turns. rule.expr turns level scopes) left
+    (left : List KeptToken) → IsExact IsToken around (λ turns. rule.expr turns level scopes) left
     (read.expr (suc (room_on level)) (from_tokens around scopes left))

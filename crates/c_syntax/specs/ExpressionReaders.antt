@@ -1,6 +1,6 @@
 -- Readers of expressions (C11 6.5).
 
-use Rattle.std.specs.Prelude.{ℕ, zero, suc, ◌-◌, Bool, true, false, List, [], ◌∷◌, ◌++◌}
+use Rattle.std.specs.Prelude.{ℕ, ◌-◌, Bool, true, false, List, [], ◌∷◌, ◌++◌}
 use Rattle.c_lexer.specs.declared.keyword.TheConstants.{KEY_SIZEOF, KEY_ALIGNOF}
 use Rattle.c_lexer.specs.declared.mark.TheConstants.{MARK_LEFT_BRACKET, MARK_RIGHT_BRACKET}
 use Rattle.c_lexer.specs.declared.mark.TheConstants.{MARK_LEFT_PAREN, MARK_RIGHT_PAREN}
@@ -19,8 +19,7 @@ use Rattle.c_tree.specs.declared.tree.Post.{Post}
 use Rattle.c_tree.specs.declared.tree.Post.TheVariants as post
 use Rattle.reading.specs.declared.turn.Turn.{Turn}
 use Rattle.reading.specs.declared.turn.Turn.TheVariants.{Again, Done}
-use Rattle.reading.specs.Readers.{◌>>=◌, pure, many, repeat}
-use Rattle.reading.specs.Nesting.{nested_reader}
+use Rattle.reading.specs.Readers.{◌>>=◌, pure, many, repeat, after}
 use Rattle.c_reading.specs.Terminals.{TEXT, mark}
 use Rattle.c_syntax.specs.declared.forms.Parts.{Parts}
 use Rattle.c_syntax.specs.declared.forms.Items.{Items}
@@ -31,6 +30,9 @@ use Rattle.c_syntax.specs.declared.forms.Mode.TheVariants.{Cast, Literal, Size}
 use Rattle.c_syntax.specs.declared.forms.Chain.{Chain}
 use Rattle.c_syntax.specs.declared.forms.Found.{Found}
 use Rattle.c_syntax.specs.declared.forms.Found.TheVariants.{Operand, Sized}
+use Rattle.c_syntax.specs.declared.forms.AssignForm.{AssignForm}
+use Rattle.c_syntax.specs.declared.forms.AssignForm.TheVariants.{Whole, Constant, Unstarred}
+use Rattle.c_syntax.specs.declared.forms.AssignForm.TheVariants.{Bare, Behind}
 use Rattle.c_syntax.specs.Scoping.{PartReader, terminal_of}
 use Rattle.c_syntax.specs.Sets.{a_name, any_name, a_constant, a_step, a_unary, a_binary, a_type}
 use Rattle.c_syntax.specs.Sets.{a_suffix, an_assignment}
@@ -40,7 +42,8 @@ use Rattle.c_syntax.specs.Forms.{one_part, with_part, expr_of, call_of, one_item
 use Rattle.c_syntax.specs.Forms.{with_mark, compound_of, flushed, chain_start, with_op, with_size}
 use Rattle.c_syntax.specs.Forms.{with_cast, prefixed_of, is_target, begun_of, binary_of}
 use Rattle.c_syntax.specs.Forms.{arms_start, with_arm, assign_of}
-use Rattle.c_syntax.specs.TypeNameReaders.{type_name}
+use Rattle.c_syntax.specs.Inner.{InnerReaders}
+use Rattle.c_syntax.specs.Sets.{other_unary}
 
 -- Further string literals (6.4.5).
 unfoldable pub one_more_text : ℕ → List ℕ → PartReader (List ℕ)
@@ -51,14 +54,14 @@ one_more_text room texts = do
 unfoldable pub more_texts : ℕ → List ℕ → PartReader (List ℕ)
 more_texts room = many terminal_of (TEXT ∷ []) (one_more_text room)
 
--- There is room for tokens of the level, and assignment expressions are read one level deeper.
-module _ (room : ℕ) (inner : PartReader Assign) where
+-- There is room for tokens of the level, and what stands in brackets is read one level deeper.
+module _ (room : ℕ) (inner : InnerReaders) where
   -- ---- Expressions one level deeper (6.5.17)
 
   unfoldable pub more_parts : Parts → PartReader Parts
   more_parts parts = do
     comma ← expect_mark MARK_COMMA (room - 1)
-    part ← inner
+    part ← inner.assign
     pure (with_part parts comma part)
 
   unfoldable pub all_parts : Parts → PartReader Parts
@@ -67,7 +70,7 @@ module _ (room : ℕ) (inner : PartReader Assign) where
   -- One part or more, behind these marks.
   unfoldable pub parts : List ℕ → PartReader Parts
   parts marks = do
-    part ← inner
+    part ← inner.assign
     all_parts (one_part part marks)
 
   unfoldable pub inner_expr : PartReader Expr
@@ -138,8 +141,8 @@ module _ (room : ℕ) (inner : PartReader Assign) where
 
   unfoldable pub next_item : Items → ℕ → PartReader (Turn Items Items)
   next_item items comma = do
-    value ← inner
-    pure (Again (with_item items comma value))
+    next ← inner.item
+    pure (Again (with_item items comma next))
 
   unfoldable pub comma_item : Items → PartReader (Turn Items Items)
   comma_item items = do
@@ -156,7 +159,7 @@ module _ (room : ℕ) (inner : PartReader Assign) where
   unfoldable pub compound : TypeName → List ℕ → PartReader BaseForm
   compound named marks = do
     brace ← expect_mark MARK_LEFT_BRACE (room - 1)
-    first ← inner
+    first ← inner.item
     items ← all_items (one_item first (marks ++ brace ∷ []))
     pure (compound_of named items)
 
@@ -179,7 +182,7 @@ module _ (room : ℕ) (inner : PartReader Assign) where
 
   unfoldable pub typed : Chain → ℕ → PartReader (Turn Chain Found)
   typed chain left = do
-    named ← type_name (room - 1)
+    named ← inner.type_name
     right ← expect_mark MARK_RIGHT_PAREN (room - 1)
     typed_at chain named (left ∷ right ∷ []) chain.mode
 
@@ -198,7 +201,7 @@ module _ (room : ℕ) (inner : PartReader Assign) where
   aligned chain = do
     key ← expect_key KEY_ALIGNOF room
     left ← expect_mark MARK_LEFT_PAREN (room - 1)
-    named ← type_name (room - 1)
+    named ← inner.type_name
     right ← expect_mark MARK_RIGHT_PAREN (room - 1)
     pure (Done (Sized (flushed chain.mode chain.prefixes)
         (form.SizeType key named (left ∷ right ∷ []))))
@@ -240,8 +243,8 @@ module _ (room : ℕ) (inner : PartReader Assign) where
       (where_mark MARK_LEFT_PAREN (paren chain) (where_among a_name (name chain)
       (where_among a_constant (constant chain) (text chain)))))))
 
-  unfoldable pub links : PartReader Found
-  links = repeat link chain_start
+  unfoldable pub links : Chain → PartReader Found
+  links = repeat link
 
   abbrev pub finished : Found → PartReader Prefixed
   finished (Operand prefixes base) = do
@@ -251,7 +254,7 @@ module _ (room : ℕ) (inner : PartReader Assign) where
 
   unfoldable pub prefixed : PartReader Prefixed
   prefixed = do
-    found ← links
+    found ← links chain_start
     finished found
 
   -- ---- Operators (6.5.5 to 6.5.16)
@@ -299,23 +302,93 @@ module _ (room : ℕ) (inner : PartReader Assign) where
     operand ← prefixed
     target_at targets operand (is_target operand)
 
-  unfoldable pub targets : PartReader Begun
-  targets = repeat target []
+  unfoldable pub targets : List (Prefixed × ℕ) → PartReader Begun
+  targets = repeat target
 
-  unfoldable pub whole : PartReader Assign
-  whole = do
-    begun ← targets
+  -- Behind the targets and the first operand of the value.
+  unfoldable pub rest_of : Begun → PartReader Assign
+  rest_of begun = do
     last ← binary begun.first
     arms ← all_arms (arms_start last)
     pure (assign_of begun.targets arms)
 
--- An assignment expression, where fewer levels are left than the number (6.5.16).
-abbrev pub assign_body : Prim.Unit {0} → ℕ → (Prim.Unit {0} → PartReader Assign) → PartReader Assign
-assign_body name room inner = whole room (inner name)
+  unfoldable pub whole : PartReader Assign
+  whole = do
+    begun ← targets []
+    rest_of begun
 
-unfoldable pub assign : ℕ → PartReader Assign
-assign room = nested_reader assign_body room tt
+  -- ---- Constant expressions (6.6), and those that begin otherwise
 
--- An expression, where fewer levels are left than the number.
-unfoldable pub expr : ℕ → PartReader Expr
-expr room = inner_expr room (assign room)
+  unfoldable pub constant_expr : PartReader Assign
+  constant_expr = do
+    first ← prefixed
+    rest_of (begun_of [] first)
+
+  -- An operator other than `*`.
+  unfoldable pub other_operator : Chain → PartReader (Turn Chain Found)
+  other_operator chain = do
+    op ← expect_among other_unary room
+    pure (Again (with_op chain op Cast))
+
+  -- What begins neither with `*` nor with `(`.
+  unfoldable pub bare_link : Chain → PartReader (Turn Chain Found)
+  bare_link chain = where_among other_unary (other_operator chain)
+      (where_among a_step (stepped chain) (where_key KEY_SIZEOF (sized chain)
+      (where_key KEY_ALIGNOF (aligned chain) (where_among a_name (name chain)
+      (where_among a_constant (constant chain) (text chain))))))
+
+  -- What does not begin with `*`.
+  unfoldable pub unstarred_link : Chain → PartReader (Turn Chain Found)
+  unstarred_link chain = where_among other_unary (other_operator chain)
+      (where_among a_step (stepped chain) (where_key KEY_SIZEOF (sized chain)
+      (where_key KEY_ALIGNOF (aligned chain) (where_mark MARK_LEFT_PAREN (paren chain)
+      (where_among a_name (name chain) (where_among a_constant (constant chain) (text chain)))))))
+
+  -- What stands first in an expression of the form.
+  unfoldable pub first_link : AssignForm → PartReader (Turn Chain Found)
+  first_link Whole = link chain_start
+  first_link Constant = link chain_start
+  first_link Unstarred = unstarred_link chain_start
+  first_link Bare = bare_link chain_start
+  first_link (Behind star) = link (with_op chain_start star Cast)
+
+  -- Behind a link, and behind the turn of a target.
+  unfoldable pub links_behind : Turn Chain Found → PartReader Found
+  links_behind turn = after links turn
+
+  unfoldable pub targets_behind : Turn (List (Prefixed × ℕ)) Begun → PartReader Begun
+  targets_behind turn = after targets turn
+
+  -- The first operand, the first target, and the whole of an expression of the form.
+  unfoldable pub first_found : AssignForm → PartReader Found
+  first_found which = do
+    turn ← first_link which
+    links_behind turn
+
+  unfoldable pub first_prefixed : AssignForm → PartReader Prefixed
+  first_prefixed which = do
+    found ← first_found which
+    finished found
+
+  unfoldable pub first_target : AssignForm → PartReader (Turn (List (Prefixed × ℕ)) Begun)
+  first_target which = do
+    operand ← first_prefixed which
+    target_at [] operand (is_target operand)
+
+  unfoldable pub first_targets : AssignForm → PartReader Begun
+  first_targets which = do
+    turn ← first_target which
+    targets_behind turn
+
+  unfoldable pub first_assign : AssignForm → PartReader Assign
+  first_assign which = do
+    begun ← first_targets which
+    rest_of begun
+
+  -- An assignment expression of the form.
+  unfoldable pub formed : AssignForm → PartReader Assign
+  formed Whole = whole
+  formed Constant = constant_expr
+  formed Unstarred = first_assign Unstarred
+  formed Bare = first_assign Bare
+  formed (Behind star) = first_assign (Behind star)

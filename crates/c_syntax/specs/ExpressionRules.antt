@@ -1,7 +1,7 @@
 -- Rules of expressions (C11 6.5). A rule of so many turns has at most so many items in its lists,
 -- and nests at most so deep.
 
-use Rattle.std.specs.Prelude.{ℕ, zero, suc, Bool, true, false, List, [], ◌∷◌, ◌++◌}
+use Rattle.std.specs.Prelude.{ℕ, suc, Bool, true, false, List, [], ◌∷◌, ◌++◌}
 use Rattle.c_lexer.specs.declared.keyword.TheConstants.{KEY_SIZEOF, KEY_ALIGNOF}
 use Rattle.c_lexer.specs.declared.mark.TheConstants.{MARK_LEFT_BRACKET, MARK_RIGHT_BRACKET}
 use Rattle.c_lexer.specs.declared.mark.TheConstants.{MARK_LEFT_PAREN, MARK_RIGHT_PAREN}
@@ -20,8 +20,7 @@ use Rattle.c_tree.specs.declared.tree.Post.{Post}
 use Rattle.c_tree.specs.declared.tree.Post.TheVariants as post
 use Rattle.reading.specs.declared.turn.Turn.{Turn}
 use Rattle.reading.specs.declared.turn.Turn.TheVariants.{Again, Done}
-use Rattle.reading.specs.Rules.{◌>>=◌, ◌or◌, pure, many, repeat}
-use Rattle.reading.specs.Nesting.{nested}
+use Rattle.reading.specs.Rules.{◌>>=◌, ◌or◌, pure, many, repeat, after}
 use Rattle.c_reading.specs.Terminals.{TEXT}
 use Rattle.c_syntax.specs.declared.forms.Parts.{Parts}
 use Rattle.c_syntax.specs.declared.forms.Items.{Items}
@@ -32,15 +31,19 @@ use Rattle.c_syntax.specs.declared.forms.Mode.TheVariants.{Cast, Literal, Size}
 use Rattle.c_syntax.specs.declared.forms.Chain.{Chain}
 use Rattle.c_syntax.specs.declared.forms.Found.{Found}
 use Rattle.c_syntax.specs.declared.forms.Found.TheVariants.{Operand, Sized}
+use Rattle.c_syntax.specs.declared.forms.AssignForm.{AssignForm}
+use Rattle.c_syntax.specs.declared.forms.AssignForm.TheVariants.{Whole, Constant, Unstarred}
+use Rattle.c_syntax.specs.declared.forms.AssignForm.TheVariants.{Bare, Behind}
 use Rattle.c_syntax.specs.Scoping.{Part}
-use Rattle.c_syntax.specs.Sets.{a_name, any_name, a_constant, a_step, a_unary, a_binary, a_type}
-use Rattle.c_syntax.specs.Sets.{a_suffix, an_assignment}
+use Rattle.c_syntax.specs.Sets.{a_name, any_name, a_constant, a_step, a_unary, a_binary}
+use Rattle.c_syntax.specs.Sets.{other_unary}
+use Rattle.c_syntax.specs.Sets.{an_assignment}
 use Rattle.c_syntax.specs.Steps.{one_among, one_mark, one_key}
 use Rattle.c_syntax.specs.Forms.{one_part, with_part, expr_of, call_of, one_item, with_item}
 use Rattle.c_syntax.specs.Forms.{with_mark, compound_of, flushed, chain_start, with_op, with_size}
 use Rattle.c_syntax.specs.Forms.{with_cast, prefixed_of, is_target, begun_of, binary_of}
 use Rattle.c_syntax.specs.Forms.{arms_start, with_arm, assign_of}
-use Rattle.c_syntax.specs.TypeNameRules.{type_name}
+use Rattle.c_syntax.specs.Inner.{Inner}
 
 module _ (turns : ℕ) where
   -- Further string literals (6.4.5).
@@ -74,14 +77,14 @@ module _ (turns : ℕ) where
       all ← parts []
       pure (expr_of all)
 
-  -- Tokens of the level, with assignment expressions one level deeper.
-  module _ (level : ℕ) (inner : Part Assign) where
+  -- Tokens of the level, with what stands in brackets one level deeper.
+  module _ (level : ℕ) (inner : Inner) where
     -- ---- Suffixes (6.5.2)
 
     unfoldable pub index : Part Post
     index = do
       left ← one_mark MARK_LEFT_BRACKET (suc level)
-      expr ← inner_expr (suc level) inner
+      expr ← inner_expr (suc level) inner.assign
       right ← one_mark MARK_RIGHT_BRACKET (suc level)
       pure (post.Index expr (left ∷ right ∷ []))
 
@@ -92,7 +95,7 @@ module _ (turns : ℕ) where
 
     unfoldable pub some_arguments : ℕ → Part Post
     some_arguments left = do
-      all ← parts (suc level) inner (left ∷ [])
+      all ← parts (suc level) inner.assign (left ∷ [])
       right ← one_mark MARK_RIGHT_PAREN (suc level)
       pure (call_of all right)
 
@@ -138,8 +141,8 @@ module _ (turns : ℕ) where
 
     unfoldable pub next_item : Items → ℕ → Part (Turn Items Items)
     next_item items comma = do
-      value ← inner
-      pure (Again (with_item items comma value))
+      next ← inner.item
+      pure (Again (with_item items comma next))
 
     unfoldable pub comma_item : Items → Part (Turn Items Items)
     comma_item items = do
@@ -156,7 +159,7 @@ module _ (turns : ℕ) where
     unfoldable pub compound : TypeName → List ℕ → Part BaseForm
     compound named marks = do
       brace ← one_mark MARK_LEFT_BRACE (suc level)
-      first ← inner
+      first ← inner.item
       items ← all_items (one_item first (marks ++ brace ∷ []))
       pure (compound_of named items)
 
@@ -179,13 +182,13 @@ module _ (turns : ℕ) where
 
     unfoldable pub typed : Chain → ℕ → Part (Turn Chain Found)
     typed chain left = do
-      named ← type_name turns (suc level)
+      named ← inner.type_name
       right ← one_mark MARK_RIGHT_PAREN (suc level)
       typed_at chain named (left ∷ right ∷ []) chain.mode
 
     unfoldable pub grouped : Chain → ℕ → Part (Turn Chain Found)
     grouped chain left = do
-      expr ← inner_expr (suc level) inner
+      expr ← inner_expr (suc level) inner.assign
       right ← one_mark MARK_RIGHT_PAREN (suc level)
       pure (Done (Operand (flushed chain.mode chain.prefixes)
           (form.Group expr (left ∷ right ∷ []))))
@@ -199,7 +202,7 @@ module _ (turns : ℕ) where
     aligned chain = do
       key ← one_key KEY_ALIGNOF level
       left ← one_mark MARK_LEFT_PAREN (suc level)
-      named ← type_name turns (suc level)
+      named ← inner.type_name
       right ← one_mark MARK_RIGHT_PAREN (suc level)
       pure (Done (Sized (flushed chain.mode chain.prefixes)
           (form.SizeType key named (left ∷ right ∷ []))))
@@ -239,8 +242,8 @@ module _ (turns : ℕ) where
     link chain = operator chain or stepped chain or sized chain or aligned chain or paren chain or
         name chain or constant chain or text chain
 
-    unfoldable pub links : Part Found
-    links = repeat turns link chain_start
+    unfoldable pub links : Chain → Part Found
+    links = repeat turns link
 
     abbrev pub finished : Found → Part Prefixed
     finished (Operand prefixes base) = do
@@ -250,7 +253,7 @@ module _ (turns : ℕ) where
 
     unfoldable pub prefixed : Part Prefixed
     prefixed = do
-      found ← links
+      found ← links chain_start
       finished found
 
     -- ---- Operators (6.5.5 to 6.5.16)
@@ -272,7 +275,7 @@ module _ (turns : ℕ) where
     unfoldable pub more_arms : Arms → Part Arms
     more_arms arms = do
       question ← one_mark MARK_QUESTION level
-      then_ ← inner_expr (suc level) inner
+      then_ ← inner_expr (suc level) inner.assign
       colon ← one_mark MARK_COLON (suc level)
       first ← prefixed
       last ← binary first
@@ -298,24 +301,89 @@ module _ (turns : ℕ) where
       operand ← prefixed
       target_at targets operand (is_target operand)
 
-    unfoldable pub targets : Part Begun
-    targets = repeat turns target []
+    unfoldable pub targets : List (Prefixed × ℕ) → Part Begun
+    targets = repeat turns target
 
-    unfoldable pub whole : Part Assign
-    whole = do
-      begun ← targets
+    -- Behind the targets and the first operand of the value.
+    unfoldable pub rest_of : Begun → Part Assign
+    rest_of begun = do
       last ← binary begun.first
       arms ← all_arms (arms_start last)
       pure (assign_of begun.targets arms)
 
--- An assignment expression of at most so many turns (6.5.16). Those that it holds in brackets, or
--- between `?` and `:`, are one level deeper.
-abbrev pub assign_body : Prim.Unit {0} → ℕ → ℕ → (Prim.Unit {0} → Part Assign) → Part Assign
-assign_body name turns level inner = whole turns level (inner name)
+    unfoldable pub whole : Part Assign
+    whole = do
+      begun ← targets []
+      rest_of begun
 
-unfoldable pub assign : ℕ → ℕ → Part Assign
-assign turns level = nested assign_body turns level tt
+    -- ---- Constant expressions (6.6), and those that begin otherwise
 
--- An expression, with its own commas on the level.
-unfoldable pub expr : ℕ → ℕ → Part Expr
-expr turns level = inner_expr turns level (assign turns level)
+    unfoldable pub constant_expr : Part Assign
+    constant_expr = do
+      first ← prefixed
+      rest_of (begun_of [] first)
+
+    -- An operator other than `*`.
+    unfoldable pub other_operator : Chain → Part (Turn Chain Found)
+    other_operator chain = do
+      op ← one_among other_unary level
+      pure (Again (with_op chain op Cast))
+
+    -- What begins neither with `*` nor with `(`.
+    unfoldable pub bare_link : Chain → Part (Turn Chain Found)
+    bare_link chain = other_operator chain or stepped chain or sized chain or aligned chain or
+        name chain or constant chain or text chain
+
+    -- What does not begin with `*`.
+    unfoldable pub unstarred_link : Chain → Part (Turn Chain Found)
+    unstarred_link chain = other_operator chain or stepped chain or sized chain or aligned chain or
+        paren chain or name chain or constant chain or text chain
+
+    -- What stands first in an expression of the form.
+    unfoldable pub first_link : AssignForm → Part (Turn Chain Found)
+    first_link Whole = link chain_start
+    first_link Constant = link chain_start
+    first_link Unstarred = unstarred_link chain_start
+    first_link Bare = bare_link chain_start
+    first_link (Behind star) = link (with_op chain_start star Cast)
+
+    -- Behind a link, and behind the turn of a target.
+    unfoldable pub links_behind : Turn Chain Found → Part Found
+    links_behind turn = after links turn
+
+    unfoldable pub targets_behind : Turn (List (Prefixed × ℕ)) Begun → Part Begun
+    targets_behind turn = after targets turn
+
+    -- The first operand, the first target, and the whole of an expression of the form.
+    unfoldable pub first_found : AssignForm → Part Found
+    first_found which = do
+      turn ← first_link which
+      links_behind turn
+
+    unfoldable pub first_prefixed : AssignForm → Part Prefixed
+    first_prefixed which = do
+      found ← first_found which
+      finished found
+
+    unfoldable pub first_target : AssignForm → Part (Turn (List (Prefixed × ℕ)) Begun)
+    first_target which = do
+      operand ← first_prefixed which
+      target_at [] operand (is_target operand)
+
+    unfoldable pub first_targets : AssignForm → Part Begun
+    first_targets which = do
+      turn ← first_target which
+      targets_behind turn
+
+    unfoldable pub first_assign : AssignForm → Part Assign
+    first_assign which = do
+      begun ← first_targets which
+      rest_of begun
+
+    -- An assignment expression of the form.
+    unfoldable pub formed : AssignForm → Part Assign
+    formed Whole = whole
+    formed Constant = constant_expr
+    formed Unstarred = first_assign Unstarred
+    formed Bare = first_assign Bare
+    formed (Behind star) = first_assign (Behind star)

@@ -1,10 +1,8 @@
 -- The parts of which the trees of expressions are made (C11 6.5).
 
-use Rattle.std.specs.Prelude.{ℕ, Bool, true, false, List, [], ◌∷◌, ◌++◌, map, None}
+use Rattle.std.specs.Prelude.{ℕ, Bool, true, false, List, [], ◌∷◌, ◌++◌, None}
 use Rattle.c_tree.specs.declared.tree.TypeName.{TypeName, roll-TypeName}
-use Rattle.c_tree.specs.declared.tree.Specs.{Specs}
 use Rattle.c_tree.specs.declared.tree.Spec.{Spec}
-use Rattle.c_tree.specs.declared.tree.Spec.TheVariants as spec
 use Rattle.c_tree.specs.declared.tree.Declarator.{Declarator, roll-Declarator}
 use Rattle.c_tree.specs.declared.tree.Pointer.{Pointer}
 use Rattle.c_tree.specs.declared.tree.Core.TheVariants as core
@@ -12,8 +10,8 @@ use Rattle.c_tree.specs.declared.tree.InitItem.{InitItem, roll-InitItem}
 use Rattle.c_tree.specs.declared.tree.Init.TheVariants as init
 use Rattle.c_tree.specs.declared.tree.Expr.{Expr, roll-Expr}
 use Rattle.c_tree.specs.declared.tree.Assign.{Assign, roll-Assign}
-use Rattle.c_tree.specs.declared.tree.Cond.{Cond, roll-Cond}
-use Rattle.c_tree.specs.declared.tree.Arm.{Arm, roll-Arm}
+use Rattle.c_tree.specs.declared.tree.Cond.{roll-Cond}
+use Rattle.c_tree.specs.declared.tree.Arm.{roll-Arm}
 use Rattle.c_tree.specs.declared.tree.Binary.{Binary, roll-Binary}
 use Rattle.c_tree.specs.declared.tree.Prefixed.{Prefixed}
 use Rattle.c_tree.specs.declared.tree.Prefix.{Prefix, out-Prefix}
@@ -67,12 +65,12 @@ abbrev pub value_item : Assign → InitItem
 value_item value =
     roll-InitItem (record { designators = []; init = init.Value (sole value); marks = [] })
 
-abbrev pub one_item : Assign → List ℕ → Items
-one_item value marks = record { items = value_item value ∷ []; marks = marks }
+abbrev pub one_item : InitItem → List ℕ → Items
+one_item item marks = record { items = item ∷ []; marks = marks }
 
-abbrev pub with_item : Items → ℕ → Assign → Items
-with_item items comma value =
-    record { items = items.items ++ value_item value ∷ []; marks = items.marks ++ comma ∷ [] }
+abbrev pub with_item : Items → ℕ → InitItem → Items
+with_item items comma item =
+    record { items = items.items ++ item ∷ []; marks = items.marks ++ comma ∷ [] }
 
 abbrev pub with_mark : Items → ℕ → Items
 with_mark items mark = record { items = items.items; marks = items.marks ++ mark ∷ [] }

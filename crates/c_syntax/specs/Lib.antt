@@ -2,9 +2,13 @@ pub mod Scoping
 pub mod Sets
 pub mod Forms
 pub mod Steps
-pub mod TypeNameRules
+pub mod Inner
 pub mod ExpressionRules
-pub mod TypeNameReaders
 pub mod ExpressionReaders
+pub mod TypeNameRules
+pub mod TypeNameReaders
+pub mod SimplestRules
+pub mod SimplestReaders
+pub mod Gives
 pub mod Nests
 pub mod ExactExpressions

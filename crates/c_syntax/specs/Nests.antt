@@ -7,8 +7,8 @@ use Rattle.c_tree.specs.declared.tree.Assign.{Assign}
 use Rattle.c_reading.specs.declared.stop.Stop.{Stop}
 use Rattle.c_reading.specs.Reads.{Reads}
 use Rattle.c_syntax.specs.declared.source.Source.{Source}
-use Rattle.c_syntax.specs.Scoping.{PartReader, input_from}
-use Rattle.c_syntax.specs.ExpressionReaders.{assign}
+use Rattle.c_syntax.specs.Scoping.{input_from}
+use Rattle.c_syntax.specs.SimplestReaders.{assign}
 
 pub record Nests (room : ℕ) (pre : Global → ℕ → MutBor Source → Type 0)
     (post : Global → ℕ → MutBor Source → Result Assign Stop → MutBor Source → Type 0) :
@@ -16,10 +16,3 @@ pub record Nests (room : ℕ) (pre : Global → ℕ → MutBor Source → Type 0
   pub callable : (alloc : Global) (old : MutBor Source) → pre alloc room old
   pub reads : (alloc : Global) (old new : MutBor Source) (r : Result Assign Stop) →
       post alloc room old r new → Reads (assign room (input_from old.now)) r (input_from new.now)
-
--- The result is what the reader of a rule gives, which has room for so many levels and reads
--- assignment expressions one level deeper.
-abbrev pub Gives : {A : Type 0} → (ℕ → PartReader Assign → PartReader A) → ℕ → Source →
-    Result A Stop → Source → Type 0
-Gives reader room old result new =
-    Reads (reader room (assign room) (input_from old)) result (input_from new)

@@ -1,35 +1,21 @@
-//! The public call, and the knot of assignment expressions (C11 6.5.16, 6.5.17).
+//! The public call (C11 6.5.17).
 
 ghost use Rattle.std.specs.Prelude.{◌≡◌, ◌+◌};
 ghost use Rattle.c_reading.specs.Reads.{Reads};
 ghost use Rattle.reading.specs.Exact.{room_on};
 ghost use Rattle.c_reading.specs.Cursors.{input_at};
-ghost use Rattle.c_syntax.specs.ExpressionReaders as spec;
+ghost use Rattle.c_syntax.specs.SimplestReaders as spec;
 ghost use Rattle.c_syntax.specs.Scoping.{input_from};
 
 use crate::grammar::Grammar;
+use crate::simplest::{Simplest, assign_in};
 use crate::source::Source;
 use c_reading::{Cursor, Stop};
-use c_tree::{Assign, Expr, Scopes};
+use c_tree::{Expr, Scopes};
 use std::alloc::Global;
 
-/// An assignment expression, where fewer levels are left than `room`.
-fn assign_in(alloc: Global, room: usize, source: &mut Source<'_>) -> Result<Assign, Stop>
-    ensures { Reads (spec.assign room (input_from source.old)) result (input_from source.new) }
-{
-    if room == 0 {
-        return Err(source.refusal());
-    }
-    Grammar {
-        alloc,
-        room: room - 1,
-        assign: assign_in,
-    }
-    .whole(source)
-}
-
 /// An expression on the level of the place.
-#[tactic(auto, unfolding(crate::specs::ExpressionReaders::expr))]
+#[tactic(auto, unfolding(crate::specs::SimplestReaders::expr))]
 fn expr_from(alloc: Global, source: &mut Source<'_>) -> Result<Expr, Stop>
     ensures { Reads (spec.expr (room_on source.old.cursor.level + 1) (input_from source.old)) result
         (input_from source.new) }
@@ -37,7 +23,7 @@ fn expr_from(alloc: Global, source: &mut Source<'_>) -> Result<Expr, Stop>
     Grammar {
         alloc,
         room: source.cursor.room() + 1,
-        assign: assign_in,
+        inner: Simplest { assign: assign_in },
     }
     .inner_expr(source)
 }

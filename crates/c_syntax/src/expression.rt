@@ -1,12 +1,12 @@
-//! Operators, conditions and assignments (C11 6.5.5 to 6.5.16).
+//! Operators, conditions and assignments (C11 6.5.5 to 6.6).
 
 ghost use Rattle.std.specs.Prelude.{◌≡◌, ◌-◌};
 ghost use Rattle.c_syntax.specs.ExpressionReaders as spec;
 ghost use Rattle.c_syntax.specs.Forms.{is_target};
-ghost use Rattle.c_syntax.specs.Nests.{Nests, Gives};
+ghost use Rattle.c_syntax.specs.Gives.{Gives};
 
 use crate::forms::{Arms, Begun, is_target};
-use crate::grammar::Grammar;
+use crate::grammar::{Grammar, Inner};
 use crate::source::Source;
 use c_lexer::mark::{MARK_COLON, MARK_QUESTION};
 use c_reading::Stop;
@@ -15,16 +15,16 @@ use joern_io::List;
 use reading::Turn;
 use std::alloc::Global;
 
-impl<F: Fn(Global, usize, &mut Source<'_>) -> Result<Assign, Stop>> Grammar<F> {
+impl<N: Inner> Grammar<N> {
     #[tactic(auto, unfolding(crate::specs::ExpressionReaders::more_operands))]
     pub(crate) fn more_operands(
         &self,
         rest: List<(u32, Prefixed)>,
         source: &mut Source<'_>,
     ) -> Result<List<(u32, Prefixed)>, Stop>
-        requires { Nests self.now.room (F.pre self.now.assign) (F.post self.now.assign) }
+        requires { N.can_read self.now.inner self.now.room }
         ensures { Gives (λ room inner. spec.more_operands room inner rest)
-            self.now.room source.old result source.new }
+            self.now.room (N.readers self.now.inner) source.old result source.new }
     {
         let mut rest = rest;
         let op = source.expect_binary(self.room)?;
@@ -37,8 +37,9 @@ impl<F: Fn(Global, usize, &mut Source<'_>) -> Result<Assign, Stop>> Grammar<F> {
         &self,
         source: &mut Source<'_>,
     ) -> Result<List<(u32, Prefixed)>, Stop>
-        requires { Nests self.now.room (F.pre self.now.assign) (F.post self.now.assign) }
-        ensures { Gives spec.all_operands self.now.room source.old result source.new }
+        requires { N.can_read self.now.inner self.now.room }
+        ensures { Gives spec.all_operands
+            self.now.room (N.readers self.now.inner) source.old result source.new }
     {
         let mut rest = List::new(self.alloc);
         for _turn in 0..source.left() {
@@ -52,9 +53,9 @@ impl<F: Fn(Global, usize, &mut Source<'_>) -> Result<Assign, Stop>> Grammar<F> {
 
     #[tactic(auto, unfolding(crate::specs::ExpressionReaders::binary))]
     pub(crate) fn binary(&self, first: Prefixed, source: &mut Source<'_>) -> Result<Binary, Stop>
-        requires { Nests self.now.room (F.pre self.now.assign) (F.post self.now.assign) }
+        requires { N.can_read self.now.inner self.now.room }
         ensures { Gives (λ room inner. spec.binary room inner first)
-            self.now.room source.old result source.new }
+            self.now.room (N.readers self.now.inner) source.old result source.new }
     {
         let rest = self.all_operands(source)?;
         Ok(Binary { first, rest })
@@ -62,9 +63,9 @@ impl<F: Fn(Global, usize, &mut Source<'_>) -> Result<Assign, Stop>> Grammar<F> {
 
     #[tactic(auto, unfolding(crate::specs::ExpressionReaders::more_arms))]
     pub(crate) fn more_arms(&self, arms: Arms, source: &mut Source<'_>) -> Result<Arms, Stop>
-        requires { Nests self.now.room (F.pre self.now.assign) (F.post self.now.assign) }
+        requires { N.can_read self.now.inner self.now.room }
         ensures { Gives (λ room inner. spec.more_arms room inner arms)
-            self.now.room source.old result source.new }
+            self.now.room (N.readers self.now.inner) source.old result source.new }
     {
         let Arms { mut arms, last } = arms;
         let question = source.expect_mark(MARK_QUESTION, self.room)?;
@@ -82,9 +83,9 @@ impl<F: Fn(Global, usize, &mut Source<'_>) -> Result<Assign, Stop>> Grammar<F> {
     }
 
     pub(crate) fn all_arms(&self, arms: Arms, source: &mut Source<'_>) -> Result<Arms, Stop>
-        requires { Nests self.now.room (F.pre self.now.assign) (F.post self.now.assign) }
+        requires { N.can_read self.now.inner self.now.room }
         ensures { Gives (λ room inner. spec.all_arms room inner arms)
-            self.now.room source.old result source.new }
+            self.now.room (N.readers self.now.inner) source.old result source.new }
     {
         let mut arms = arms;
         for _turn in 0..source.left() {
@@ -105,7 +106,7 @@ impl<F: Fn(Global, usize, &mut Source<'_>) -> Result<Assign, Stop>> Grammar<F> {
         source: &mut Source<'_>,
     ) -> Result<Turn<List<(Prefixed, u32)>, Begun>, Stop>
         ensures { Gives (λ room inner. spec.set_target room inner targets operand)
-            self.now.room source.old result source.new }
+            self.now.room (N.readers self.now.inner) source.old result source.new }
     {
         let mut targets = targets;
         let op = source.expect_assignment(self.room)?;
@@ -114,7 +115,7 @@ impl<F: Fn(Global, usize, &mut Source<'_>) -> Result<Assign, Stop>> Grammar<F> {
     }
 
     /// What an operand is where it stands first: a target, or the first of the value.
-    fn target_at(
+    pub(crate) fn target_at(
         &self,
         targets: List<(Prefixed, u32)>,
         operand: Prefixed,
@@ -122,7 +123,7 @@ impl<F: Fn(Global, usize, &mut Source<'_>) -> Result<Assign, Stop>> Grammar<F> {
     ) -> Result<Turn<List<(Prefixed, u32)>, Begun>, Stop>
         ensures { Gives
             (λ room inner. spec.target_at room inner targets operand (is_target operand))
-            self.now.room source.old result source.new }
+            self.now.room (N.readers self.now.inner) source.old result source.new }
     {
         if !is_target(&operand) {
             return Ok(Turn::Done(Begun {
@@ -146,19 +147,25 @@ impl<F: Fn(Global, usize, &mut Source<'_>) -> Result<Assign, Stop>> Grammar<F> {
         targets: List<(Prefixed, u32)>,
         source: &mut Source<'_>,
     ) -> Result<Turn<List<(Prefixed, u32)>, Begun>, Stop>
-        requires { Nests self.now.room (F.pre self.now.assign) (F.post self.now.assign) }
+        requires { N.can_read self.now.inner self.now.room }
         ensures { Gives (λ room inner. spec.target room inner targets)
-            self.now.room source.old result source.new }
+            self.now.room (N.readers self.now.inner) source.old result source.new }
     {
         let first = self.prefixed(source)?;
         self.target_at(targets, first, source)
     }
 
-    pub(crate) fn targets(&self, source: &mut Source<'_>) -> Result<Begun, Stop>
-        requires { Nests self.now.room (F.pre self.now.assign) (F.post self.now.assign) }
-        ensures { Gives spec.targets self.now.room source.old result source.new }
+    /// Targets up to the first operand of the value.
+    pub(crate) fn targets(
+        &self,
+        targets: List<(Prefixed, u32)>,
+        source: &mut Source<'_>,
+    ) -> Result<Begun, Stop>
+        requires { N.can_read self.now.inner self.now.room }
+        ensures { Gives (λ room inner. spec.targets room inner targets)
+            self.now.room (N.readers self.now.inner) source.old result source.new }
     {
-        let mut targets = List::new(self.alloc);
+        let mut targets = targets;
         for _turn in 0..source.left() {
             match self.target(targets, source)? {
                 Turn::Again(more) => targets = more,
@@ -168,13 +175,14 @@ impl<F: Fn(Global, usize, &mut Source<'_>) -> Result<Assign, Stop>> Grammar<F> {
         Err(source.refusal())
     }
 
-    /// 6.5.16.
-    #[tactic(auto, unfolding(crate::specs::ExpressionReaders::whole))]
-    pub(crate) fn whole(&self, source: &mut Source<'_>) -> Result<Assign, Stop>
-        requires { Nests self.now.room (F.pre self.now.assign) (F.post self.now.assign) }
-        ensures { Gives spec.whole self.now.room source.old result source.new }
+    /// What follows the targets and the first operand of the value.
+    #[tactic(auto, unfolding(crate::specs::ExpressionReaders::rest_of))]
+    pub(crate) fn rest_of(&self, begun: Begun, source: &mut Source<'_>) -> Result<Assign, Stop>
+        requires { N.can_read self.now.inner self.now.room }
+        ensures { Gives (λ room inner. spec.rest_of room inner begun)
+            self.now.room (N.readers self.now.inner) source.old result source.new }
     {
-        let Begun { targets, first } = self.targets(source)?;
+        let Begun { targets, first } = begun;
         let last = self.binary(first, source)?;
         let arms = List::new(self.alloc);
         let Arms { arms, last } = self.all_arms(Arms { arms, last }, source)?;
@@ -182,5 +190,28 @@ impl<F: Fn(Global, usize, &mut Source<'_>) -> Result<Assign, Stop>> Grammar<F> {
             targets,
             value: Cond { arms, last },
         })
+    }
+
+    /// 6.5.16.
+    #[tactic(auto, unfolding(crate::specs::ExpressionReaders::whole))]
+    pub(crate) fn whole(&self, source: &mut Source<'_>) -> Result<Assign, Stop>
+        requires { N.can_read self.now.inner self.now.room }
+        ensures { Gives spec.whole
+            self.now.room (N.readers self.now.inner) source.old result source.new }
+    {
+        let begun = self.targets(List::new(self.alloc), source)?;
+        self.rest_of(begun, source)
+    }
+
+    /// 6.6.
+    #[tactic(auto, unfolding(crate::specs::ExpressionReaders::constant_expr))]
+    pub(crate) fn constant_expr(&self, source: &mut Source<'_>) -> Result<Assign, Stop>
+        requires { N.can_read self.now.inner self.now.room }
+        ensures { Gives spec.constant_expr
+            self.now.room (N.readers self.now.inner) source.old result source.new }
+    {
+        let first = self.prefixed(source)?;
+        let targets = List::new(self.alloc);
+        self.rest_of(Begun { targets, first }, source)
     }
 }

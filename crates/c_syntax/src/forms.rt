@@ -46,6 +46,21 @@ pub(crate) enum Mode {
     Size(u32),
 }
 
+/// Which assignment expressions may stand at a place.
+#[derive(Clone, Copy, Drop)]
+pub enum AssignForm {
+    /// Each (6.5.16).
+    Whole,
+    /// Conditional expressions (6.6).
+    Constant,
+    /// Those that do not begin with `*`.
+    Unstarred,
+    /// Those that begin neither with `*` nor with `(`.
+    Bare,
+    /// What stands behind this token, the `*` with which they begin.
+    Behind(u32),
+}
+
 /// The prefixes so far. A `sizeof` in the mode is not yet one of them.
 #[derive(Drop)]
 pub(crate) struct Chain {

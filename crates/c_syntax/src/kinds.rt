@@ -4,13 +4,14 @@ ghost use Rattle.std.specs.Prelude.{◌≡◌};
 ghost use Rattle.reading.specs.Terminals.{has};
 ghost use Rattle.c_reading.specs.Terminals.{terminal};
 ghost use Rattle.c_syntax.specs.Sets.{a_step, a_unary, a_binary, an_assignment, a_basic_type};
-ghost use Rattle.c_syntax.specs.Sets.{a_constant, a_suffix};
+ghost use Rattle.c_syntax.specs.Sets.{a_constant, a_suffix, a_type_word, other_unary};
 
 use c_lexer::Kind;
 use c_lexer::keyword::{
-    KEY_BOOL, KEY_BUILTIN_VA_LIST, KEY_CHAR, KEY_COMPLEX, KEY_DOUBLE, KEY_FLOAT, KEY_FLOAT32,
-    KEY_FLOAT32X, KEY_FLOAT64, KEY_FLOAT64X, KEY_FLOAT128, KEY_INT, KEY_INT128, KEY_LONG,
-    KEY_SHORT, KEY_SIGNED, KEY_UNSIGNED, KEY_VOID,
+    KEY_ATOMIC, KEY_BOOL, KEY_BUILTIN_VA_LIST, KEY_CHAR, KEY_COMPLEX, KEY_CONST, KEY_DOUBLE,
+    KEY_ENUM, KEY_FLOAT, KEY_FLOAT32, KEY_FLOAT32X, KEY_FLOAT64, KEY_FLOAT64X, KEY_FLOAT128,
+    KEY_INT, KEY_INT128, KEY_LONG, KEY_RESTRICT, KEY_SHORT, KEY_SIGNED, KEY_STRUCT, KEY_UNION,
+    KEY_UNSIGNED, KEY_VOID, KEY_VOLATILE,
 };
 use c_lexer::mark::{
     MARK_AMPERSAND, MARK_AMPERSAND_EQUAL, MARK_AND_AND, MARK_ARROW, MARK_BAR, MARK_BAR_EQUAL,
@@ -38,6 +39,16 @@ pub(crate) fn is_unary(kind: Kind) -> bool
         Kind::Mark(
             MARK_AMPERSAND | MARK_STAR | MARK_PLUS | MARK_MINUS | MARK_TILDE | MARK_EXCLAMATION
         )
+    )
+}
+
+/// One of these other than `*`.
+pub(crate) fn is_other_unary(kind: Kind) -> bool
+    ensures { result ≡ has other_unary (terminal kind) }
+{
+    matches!(
+        kind,
+        Kind::Mark(MARK_AMPERSAND | MARK_PLUS | MARK_MINUS | MARK_TILDE | MARK_EXCLAMATION)
     )
 }
 
@@ -141,6 +152,42 @@ pub(crate) fn is_basic_type(kind: Kind) -> bool
                 | KEY_FLOAT128
                 | KEY_FLOAT32X
                 | KEY_FLOAT64X
+        )
+    )
+}
+
+/// What begins a type name and is no typedef name (6.7.7).
+pub(crate) fn begins_type(kind: Kind) -> bool
+    ensures { result ≡ has a_type_word (terminal kind) }
+{
+    matches!(
+        kind,
+        Kind::Key(
+            KEY_ATOMIC
+                | KEY_VOID
+                | KEY_CHAR
+                | KEY_SHORT
+                | KEY_INT
+                | KEY_LONG
+                | KEY_FLOAT
+                | KEY_DOUBLE
+                | KEY_SIGNED
+                | KEY_UNSIGNED
+                | KEY_BOOL
+                | KEY_COMPLEX
+                | KEY_BUILTIN_VA_LIST
+                | KEY_INT128
+                | KEY_FLOAT32
+                | KEY_FLOAT64
+                | KEY_FLOAT128
+                | KEY_FLOAT32X
+                | KEY_FLOAT64X
+                | KEY_STRUCT
+                | KEY_UNION
+                | KEY_ENUM
+                | KEY_CONST
+                | KEY_RESTRICT
+                | KEY_VOLATILE
         )
     )
 }

@@ -1,6 +1,7 @@
 //! Expressions of C, read from kept tokens (C11 6.5).
 #![tactic(auto)]
 
+mod beginning;
 mod entry;
 mod expression;
 mod forms;
@@ -8,8 +9,12 @@ mod grammar;
 mod kinds;
 pub mod laws;
 mod operand;
+mod simplest;
 mod source;
 mod suffix;
 mod type_name;
 
 pub use entry::read_expr;
+pub use forms::AssignForm;
+pub use grammar::{Grammar, Inner};
+pub use source::Source;

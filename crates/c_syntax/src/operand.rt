@@ -3,13 +3,12 @@
 ghost use Rattle.std.specs.Prelude.{◌≡◌, ◌-◌};
 ghost use Rattle.c_reading.specs.Reads.{Reads};
 ghost use Rattle.c_syntax.specs.ExpressionReaders as spec;
-ghost use Rattle.c_syntax.specs.Nests.{Nests, Gives};
+ghost use Rattle.c_syntax.specs.Gives.{Gives};
 ghost use Rattle.c_syntax.specs.Scoping.{input_from};
 
-use crate::forms::{Chain, Found, Items, Mode, value_item};
-use crate::grammar::Grammar;
+use crate::forms::{Chain, Found, Items, Mode};
+use crate::grammar::{Grammar, Inner};
 use crate::source::Source;
-use crate::type_name::type_name;
 use c_lexer::keyword::{KEY_ALIGNOF, KEY_SIZEOF};
 use c_lexer::mark::{
     MARK_COMMA, MARK_LEFT_BRACE, MARK_LEFT_PAREN, MARK_RIGHT_BRACE, MARK_RIGHT_PAREN,
@@ -46,16 +45,16 @@ fn more_texts(room: usize, texts: List<u32>, source: &mut Source<'_>) -> Result<
     Ok(texts)
 }
 
-impl<F: Fn(Global, usize, &mut Source<'_>) -> Result<Assign, Stop>> Grammar<F> {
+impl<N: Inner> Grammar<N> {
     #[tactic(auto, unfolding(crate::specs::ExpressionReaders::last_item))]
     pub(crate) fn last_item(
         &self,
         items: Items,
         source: &mut Source<'_>,
     ) -> Result<Turn<Items, Items>, Stop>
-        requires { Nests self.now.room (F.pre self.now.assign) (F.post self.now.assign) }
+        requires { N.can_read self.now.inner self.now.room }
         ensures { Gives (λ room inner. spec.last_item room inner items)
-            self.now.room source.old result source.new }
+            self.now.room (N.readers self.now.inner) source.old result source.new }
     {
         let Items { items, mut marks } = items;
         marks.push(source.expect_mark(MARK_RIGHT_BRACE, self.deeper())?)?;
@@ -69,16 +68,16 @@ impl<F: Fn(Global, usize, &mut Source<'_>) -> Result<Assign, Stop>> Grammar<F> {
         comma: u32,
         source: &mut Source<'_>,
     ) -> Result<Turn<Items, Items>, Stop>
-        requires { Nests self.now.room (F.pre self.now.assign) (F.post self.now.assign) }
+        requires { N.can_read self.now.inner self.now.room }
         ensures { Gives (λ room inner. spec.next_item room inner items comma)
-            self.now.room source.old result source.new }
+            self.now.room (N.readers self.now.inner) source.old result source.new }
     {
         let Items {
             mut items,
             mut marks,
         } = items;
-        let value = self.inner(source)?;
-        items.push(value_item(self.alloc, value)?)?;
+        let item = self.inner_item(source)?;
+        items.push(item)?;
         marks.push(comma)?;
         Ok(Turn::Again(Items { items, marks }))
     }
@@ -89,9 +88,9 @@ impl<F: Fn(Global, usize, &mut Source<'_>) -> Result<Assign, Stop>> Grammar<F> {
         items: Items,
         source: &mut Source<'_>,
     ) -> Result<Turn<Items, Items>, Stop>
-        requires { Nests self.now.room (F.pre self.now.assign) (F.post self.now.assign) }
+        requires { N.can_read self.now.inner self.now.room }
         ensures { Gives (λ room inner. spec.comma_item room inner items)
-            self.now.room source.old result source.new }
+            self.now.room (N.readers self.now.inner) source.old result source.new }
     {
         let comma = source.expect_mark(MARK_COMMA, self.deeper())?;
         if source.is_at_mark(MARK_RIGHT_BRACE) {
@@ -109,9 +108,9 @@ impl<F: Fn(Global, usize, &mut Source<'_>) -> Result<Assign, Stop>> Grammar<F> {
         items: Items,
         source: &mut Source<'_>,
     ) -> Result<Turn<Items, Items>, Stop>
-        requires { Nests self.now.room (F.pre self.now.assign) (F.post self.now.assign) }
+        requires { N.can_read self.now.inner self.now.room }
         ensures { Gives (λ room inner. spec.item room inner items)
-            self.now.room source.old result source.new }
+            self.now.room (N.readers self.now.inner) source.old result source.new }
     {
         if source.is_at_mark(MARK_COMMA) {
             self.comma_item(items, source)
@@ -122,9 +121,9 @@ impl<F: Fn(Global, usize, &mut Source<'_>) -> Result<Assign, Stop>> Grammar<F> {
 
     /// The items of a list after the first, and `}`.
     pub(crate) fn all_items(&self, items: Items, source: &mut Source<'_>) -> Result<Items, Stop>
-        requires { Nests self.now.room (F.pre self.now.assign) (F.post self.now.assign) }
+        requires { N.can_read self.now.inner self.now.room }
         ensures { Gives (λ room inner. spec.all_items room inner items)
-            self.now.room source.old result source.new }
+            self.now.room (N.readers self.now.inner) source.old result source.new }
     {
         let mut items = items;
         for _turn in 0..source.left() {
@@ -144,14 +143,14 @@ impl<F: Fn(Global, usize, &mut Source<'_>) -> Result<Assign, Stop>> Grammar<F> {
         marks: List<u32>,
         source: &mut Source<'_>,
     ) -> Result<BaseForm, Stop>
-        requires { Nests self.now.room (F.pre self.now.assign) (F.post self.now.assign) }
+        requires { N.can_read self.now.inner self.now.room }
         ensures { Gives (λ room inner. spec.compound room inner named marks)
-            self.now.room source.old result source.new }
+            self.now.room (N.readers self.now.inner) source.old result source.new }
     {
         let mut marks = marks;
         marks.push(source.expect_mark(MARK_LEFT_BRACE, self.deeper())?)?;
-        let first = self.inner(source)?;
-        let items = list_of_one(self.alloc, value_item(self.alloc, first)?)?;
+        let first = self.inner_item(source)?;
+        let items = list_of_one(self.alloc, first)?;
         let Items { items, marks } = self.all_items(Items { items, marks }, source)?;
         let named = Boxed::new(self.alloc, named)?;
         Ok(BaseForm::Compound(named, items, marks))
@@ -165,9 +164,9 @@ impl<F: Fn(Global, usize, &mut Source<'_>) -> Result<Assign, Stop>> Grammar<F> {
         marks: List<u32>,
         source: &mut Source<'_>,
     ) -> Result<Turn<Chain, Found>, Stop>
-        requires { Nests self.now.room (F.pre self.now.assign) (F.post self.now.assign) }
+        requires { N.can_read self.now.inner self.now.room }
         ensures { Gives (λ room inner. spec.with_compound room inner prefixes named marks)
-            self.now.room source.old result source.new }
+            self.now.room (N.readers self.now.inner) source.old result source.new }
     {
         let base = self.compound(named, marks, source)?;
         Ok(Turn::Done(Found::Operand(prefixes, base)))
@@ -181,11 +180,11 @@ impl<F: Fn(Global, usize, &mut Source<'_>) -> Result<Assign, Stop>> Grammar<F> {
         left: u32,
         source: &mut Source<'_>,
     ) -> Result<Turn<Chain, Found>, Stop>
-        requires { Nests self.now.room (F.pre self.now.assign) (F.post self.now.assign) }
+        requires { N.can_read self.now.inner self.now.room }
         ensures { Gives (λ room inner. spec.typed room inner chain left)
-            self.now.room source.old result source.new }
+            self.now.room (N.readers self.now.inner) source.old result source.new }
     {
-        let named = type_name(self.alloc, self.deeper(), source)?;
+        let named = self.inner_type_name(source)?;
         let right = source.expect_mark(MARK_RIGHT_PAREN, self.deeper())?;
         let marks = two_marks(self.alloc, left, right)?;
         let Chain { mut prefixes, mode } = chain;
@@ -221,9 +220,9 @@ impl<F: Fn(Global, usize, &mut Source<'_>) -> Result<Assign, Stop>> Grammar<F> {
         left: u32,
         source: &mut Source<'_>,
     ) -> Result<Turn<Chain, Found>, Stop>
-        requires { Nests self.now.room (F.pre self.now.assign) (F.post self.now.assign) }
+        requires { N.can_read self.now.inner self.now.room }
         ensures { Gives (λ room inner. spec.grouped room inner chain left)
-            self.now.room source.old result source.new }
+            self.now.room (N.readers self.now.inner) source.old result source.new }
     {
         let expr = self.inner_expr(source)?;
         let right = source.expect_mark(MARK_RIGHT_PAREN, self.deeper())?;
@@ -240,9 +239,9 @@ impl<F: Fn(Global, usize, &mut Source<'_>) -> Result<Assign, Stop>> Grammar<F> {
         chain: Chain,
         source: &mut Source<'_>,
     ) -> Result<Turn<Chain, Found>, Stop>
-        requires { Nests self.now.room (F.pre self.now.assign) (F.post self.now.assign) }
+        requires { N.can_read self.now.inner self.now.room }
         ensures { Gives (λ room inner. spec.paren room inner chain)
-            self.now.room source.old result source.new }
+            self.now.room (N.readers self.now.inner) source.old result source.new }
     {
         let left = source.expect_mark(MARK_LEFT_PAREN, self.deeper())?;
         if source.is_at_type() {
@@ -258,13 +257,13 @@ impl<F: Fn(Global, usize, &mut Source<'_>) -> Result<Assign, Stop>> Grammar<F> {
         chain: Chain,
         source: &mut Source<'_>,
     ) -> Result<Turn<Chain, Found>, Stop>
-        requires { Nests self.now.room (F.pre self.now.assign) (F.post self.now.assign) }
+        requires { N.can_read self.now.inner self.now.room }
         ensures { Gives (λ room inner. spec.aligned room inner chain)
-            self.now.room source.old result source.new }
+            self.now.room (N.readers self.now.inner) source.old result source.new }
     {
         let key = source.expect_key(KEY_ALIGNOF, self.room)?;
         let left = source.expect_mark(MARK_LEFT_PAREN, self.deeper())?;
-        let named = type_name(self.alloc, self.deeper(), source)?;
+        let named = self.inner_type_name(source)?;
         let right = source.expect_mark(MARK_RIGHT_PAREN, self.deeper())?;
         let marks = two_marks(self.alloc, left, right)?;
         let named = Boxed::new(self.alloc, named)?;
@@ -279,9 +278,9 @@ impl<F: Fn(Global, usize, &mut Source<'_>) -> Result<Assign, Stop>> Grammar<F> {
         chain: Chain,
         source: &mut Source<'_>,
     ) -> Result<Turn<Chain, Found>, Stop>
-        requires { Nests self.now.room (F.pre self.now.assign) (F.post self.now.assign) }
+        requires { N.can_read self.now.inner self.now.room }
         ensures { Gives (λ room inner. spec.operator room inner chain)
-            self.now.room source.old result source.new }
+            self.now.room (N.readers self.now.inner) source.old result source.new }
     {
         let op = source.expect_unary(self.room)?;
         let mut prefixes = chain.mode.flush(chain.prefixes)?;
@@ -298,9 +297,9 @@ impl<F: Fn(Global, usize, &mut Source<'_>) -> Result<Assign, Stop>> Grammar<F> {
         chain: Chain,
         source: &mut Source<'_>,
     ) -> Result<Turn<Chain, Found>, Stop>
-        requires { Nests self.now.room (F.pre self.now.assign) (F.post self.now.assign) }
+        requires { N.can_read self.now.inner self.now.room }
         ensures { Gives (λ room inner. spec.stepped room inner chain)
-            self.now.room source.old result source.new }
+            self.now.room (N.readers self.now.inner) source.old result source.new }
     {
         let op = source.expect_step(self.room)?;
         let mut prefixes = chain.mode.flush(chain.prefixes)?;
@@ -317,9 +316,9 @@ impl<F: Fn(Global, usize, &mut Source<'_>) -> Result<Assign, Stop>> Grammar<F> {
         chain: Chain,
         source: &mut Source<'_>,
     ) -> Result<Turn<Chain, Found>, Stop>
-        requires { Nests self.now.room (F.pre self.now.assign) (F.post self.now.assign) }
+        requires { N.can_read self.now.inner self.now.room }
         ensures { Gives (λ room inner. spec.sized room inner chain)
-            self.now.room source.old result source.new }
+            self.now.room (N.readers self.now.inner) source.old result source.new }
     {
         let key = source.expect_key(KEY_SIZEOF, self.room)?;
         let prefixes = chain.mode.flush(chain.prefixes)?;
@@ -335,9 +334,9 @@ impl<F: Fn(Global, usize, &mut Source<'_>) -> Result<Assign, Stop>> Grammar<F> {
         chain: Chain,
         source: &mut Source<'_>,
     ) -> Result<Turn<Chain, Found>, Stop>
-        requires { Nests self.now.room (F.pre self.now.assign) (F.post self.now.assign) }
+        requires { N.can_read self.now.inner self.now.room }
         ensures { Gives (λ room inner. spec.name room inner chain)
-            self.now.room source.old result source.new }
+            self.now.room (N.readers self.now.inner) source.old result source.new }
     {
         let token = source.expect_name(self.room)?;
         let form = BaseForm::Name(token);
@@ -351,9 +350,9 @@ impl<F: Fn(Global, usize, &mut Source<'_>) -> Result<Assign, Stop>> Grammar<F> {
         chain: Chain,
         source: &mut Source<'_>,
     ) -> Result<Turn<Chain, Found>, Stop>
-        requires { Nests self.now.room (F.pre self.now.assign) (F.post self.now.assign) }
+        requires { N.can_read self.now.inner self.now.room }
         ensures { Gives (λ room inner. spec.constant room inner chain)
-            self.now.room source.old result source.new }
+            self.now.room (N.readers self.now.inner) source.old result source.new }
     {
         let token = source.expect_constant(self.room)?;
         let form = BaseForm::Literal(list_of_one(self.alloc, token)?);
@@ -367,9 +366,9 @@ impl<F: Fn(Global, usize, &mut Source<'_>) -> Result<Assign, Stop>> Grammar<F> {
         chain: Chain,
         source: &mut Source<'_>,
     ) -> Result<Turn<Chain, Found>, Stop>
-        requires { Nests self.now.room (F.pre self.now.assign) (F.post self.now.assign) }
+        requires { N.can_read self.now.inner self.now.room }
         ensures { Gives (λ room inner. spec.text room inner chain)
-            self.now.room source.old result source.new }
+            self.now.room (N.readers self.now.inner) source.old result source.new }
     {
         let token = source.expect_text(self.room)?;
         let tokens = more_texts(self.room, list_of_one(self.alloc, token)?, source)?;
@@ -385,9 +384,9 @@ impl<F: Fn(Global, usize, &mut Source<'_>) -> Result<Assign, Stop>> Grammar<F> {
         chain: Chain,
         source: &mut Source<'_>,
     ) -> Result<Turn<Chain, Found>, Stop>
-        requires { Nests self.now.room (F.pre self.now.assign) (F.post self.now.assign) }
+        requires { N.can_read self.now.inner self.now.room }
         ensures { Gives (λ room inner. spec.link room inner chain)
-            self.now.room source.old result source.new }
+            self.now.room (N.readers self.now.inner) source.old result source.new }
     {
         if source.is_at_unary() {
             self.operator(chain, source)
@@ -408,14 +407,13 @@ impl<F: Fn(Global, usize, &mut Source<'_>) -> Result<Assign, Stop>> Grammar<F> {
         }
     }
 
-    pub(crate) fn links(&self, source: &mut Source<'_>) -> Result<Found, Stop>
-        requires { Nests self.now.room (F.pre self.now.assign) (F.post self.now.assign) }
-        ensures { Gives spec.links self.now.room source.old result source.new }
+    /// Links of an operand up to the last one.
+    pub(crate) fn links(&self, chain: Chain, source: &mut Source<'_>) -> Result<Found, Stop>
+        requires { N.can_read self.now.inner self.now.room }
+        ensures { Gives (λ room inner. spec.links room inner chain)
+            self.now.room (N.readers self.now.inner) source.old result source.new }
     {
-        let mut chain = Chain {
-            prefixes: List::new(self.alloc),
-            mode: Mode::Cast,
-        };
+        let mut chain = chain;
         for _turn in 0..source.left() {
             match self.link(chain, source)? {
                 Turn::Again(more) => chain = more,
@@ -425,13 +423,13 @@ impl<F: Fn(Global, usize, &mut Source<'_>) -> Result<Assign, Stop>> Grammar<F> {
         Err(source.refusal())
     }
 
-    /// 6.5.3 and 6.5.4.
-    #[tactic(auto, unfolding(crate::specs::ExpressionReaders::prefixed))]
-    pub(crate) fn prefixed(&self, source: &mut Source<'_>) -> Result<Prefixed, Stop>
-        requires { Nests self.now.room (F.pre self.now.assign) (F.post self.now.assign) }
-        ensures { Gives spec.prefixed self.now.room source.old result source.new }
+    /// An operand with its suffixes.
+    pub(crate) fn finished(&self, found: Found, source: &mut Source<'_>) -> Result<Prefixed, Stop>
+        requires { N.can_read self.now.inner self.now.room }
+        ensures { Gives (λ room inner. spec.finished room inner found)
+            self.now.room (N.readers self.now.inner) source.old result source.new }
     {
-        match self.links(source)? {
+        match found {
             Found::Operand(prefixes, form) => {
                 let suffixes = self.all_suffixes(source)?;
                 Ok(Prefixed {
@@ -447,5 +445,20 @@ impl<F: Fn(Global, usize, &mut Source<'_>) -> Result<Assign, Stop>> Grammar<F> {
                 },
             }),
         }
+    }
+
+    /// 6.5.3 and 6.5.4.
+    #[tactic(auto, unfolding(crate::specs::ExpressionReaders::prefixed))]
+    pub(crate) fn prefixed(&self, source: &mut Source<'_>) -> Result<Prefixed, Stop>
+        requires { N.can_read self.now.inner self.now.room }
+        ensures { Gives spec.prefixed
+            self.now.room (N.readers self.now.inner) source.old result source.new }
+    {
+        let start = Chain {
+            prefixes: List::new(self.alloc),
+            mode: Mode::Cast,
+        };
+        let found = self.links(start, source)?;
+        self.finished(found, source)
     }
 }

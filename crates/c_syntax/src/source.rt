@@ -7,11 +7,12 @@ ghost use Rattle.c_reading.specs.Terminals.{TEXT, mark, key};
 ghost use Rattle.c_syntax.specs.Scoping.{input_from, terminal_of};
 ghost use Rattle.c_syntax.specs.Sets.{a_name, any_name, a_typedef_name, a_constant, a_step};
 ghost use Rattle.c_syntax.specs.Sets.{a_unary, a_binary, an_assignment, a_basic_type, a_type};
-ghost use Rattle.c_syntax.specs.Sets.{a_suffix};
+ghost use Rattle.c_syntax.specs.Sets.{a_suffix, other_unary};
 ghost use Rattle.c_syntax.specs.Steps.{expect_among, expect_mark, expect_key, take_where};
 
 use crate::kinds::{
-    begins_suffix, is_assignment, is_basic_type, is_binary, is_constant, is_step, is_unary,
+    begins_suffix, begins_type, is_assignment, is_basic_type, is_binary, is_constant,
+    is_other_unary, is_step, is_unary,
 };
 use c_lexer::Kind;
 use c_reading::{Cursor, Stop};
@@ -19,42 +20,42 @@ use c_scopes::Scopes;
 
 /// A place among the kept tokens, and the scopes that are open there.
 #[derive(Drop)]
-pub(crate) struct Source<'t> {
-    pub(crate) cursor: Cursor<'t>,
-    pub(crate) scopes: Scopes,
+pub struct Source<'t> {
+    pub cursor: Cursor<'t>,
+    pub scopes: Scopes,
 }
 
 impl<'t> Source<'t> {
     /// How many tokens are left.
-    pub(crate) fn left(&self) -> usize
+    pub fn left(&self) -> usize
         ensures { result ≡ length (input_from self.now).tokens }
     {
         self.cursor.left()
     }
 
     /// The stop that blames the next token.
-    pub(crate) fn refusal(&self) -> Stop
+    pub fn refusal(&self) -> Stop
         ensures { result ≡ Stop.Offends self.now.cursor.at }
     {
         self.cursor.refusal()
     }
 
     /// Whether the next token is this mark.
-    pub(crate) fn is_at_mark(&self, number: u8) -> bool
+    pub fn is_at_mark(&self, number: u8) -> bool
         ensures { result ≡ is_ahead terminal_of (mark number ∷ []) (input_from self.now) }
     {
         self.cursor.is_at(Kind::Mark(number))
     }
 
     /// Whether the next token is this keyword.
-    pub(crate) fn is_at_key(&self, number: u8) -> bool
+    pub fn is_at_key(&self, number: u8) -> bool
         ensures { result ≡ is_ahead terminal_of (key number ∷ []) (input_from self.now) }
     {
         self.cursor.is_at(Kind::Key(number))
     }
 
     /// Whether the next token is a word that is a typedef name.
-    pub(crate) fn is_at_typedef_name(&self) -> bool
+    pub fn is_at_typedef_name(&self) -> bool
         ensures { result ≡ is_ahead terminal_of a_typedef_name (input_from self.now) }
     {
         if self.cursor.is_at(Kind::Word) {
@@ -65,7 +66,7 @@ impl<'t> Source<'t> {
     }
 
     /// Whether the next token is a word that is no typedef name.
-    pub(crate) fn is_at_name(&self) -> bool
+    pub fn is_at_name(&self) -> bool
         ensures { result ≡ is_ahead terminal_of a_name (input_from self.now) }
     {
         if self.cursor.is_at(Kind::Word) {
@@ -76,14 +77,14 @@ impl<'t> Source<'t> {
     }
 
     /// Whether the next token is a word.
-    pub(crate) fn is_at_any_name(&self) -> bool
+    pub fn is_at_any_name(&self) -> bool
         ensures { result ≡ is_ahead terminal_of any_name (input_from self.now) }
     {
         self.cursor.is_at(Kind::Word)
     }
 
     /// Whether the next token is a string literal.
-    pub(crate) fn is_at_text(&self) -> bool
+    pub fn is_at_text(&self) -> bool
         ensures { result ≡ is_ahead terminal_of (TEXT ∷ []) (input_from self.now) }
     {
         self.cursor.is_at(Kind::Text)
@@ -100,7 +101,7 @@ impl<'t> Source<'t> {
     }
 
     /// Whether the next token is a type specifier of one keyword.
-    pub(crate) fn is_at_basic_type(&self) -> bool
+    pub fn is_at_basic_type(&self) -> bool
         ensures { result ≡ is_ahead terminal_of a_basic_type (input_from self.now) }
     {
         match self.cursor.ahead() {
@@ -110,13 +111,16 @@ impl<'t> Source<'t> {
     }
 
     /// Whether the next token begins a type name.
-    pub(crate) fn is_at_type(&self) -> bool
+    pub fn is_at_type(&self) -> bool
         ensures { result ≡ is_ahead terminal_of a_type (input_from self.now) }
     {
         if self.is_at_typedef_name() {
             return true;
         }
-        self.is_at_basic_type()
+        match self.cursor.ahead() {
+            Some(kind) => begins_type(kind),
+            None => false,
+        }
     }
 
     /// Whether the next token is `++` or `--`.
@@ -135,6 +139,16 @@ impl<'t> Source<'t> {
     {
         match self.cursor.ahead() {
             Some(kind) => is_unary(kind),
+            None => false,
+        }
+    }
+
+    /// Whether the next token is such an operator other than `*`.
+    pub(crate) fn is_at_other_unary(&self) -> bool
+        ensures { result ≡ is_ahead terminal_of other_unary (input_from self.now) }
+    {
+        match self.cursor.ahead() {
+            Some(kind) => is_other_unary(kind),
             None => false,
         }
     }
@@ -170,7 +184,7 @@ impl<'t> Source<'t> {
     }
 
     /// Takes the next token, if it may stand there.
-    fn take_if(&mut self, may_stand: bool, room: usize) -> Result<u32, Stop>
+    pub fn take_if(&mut self, may_stand: bool, room: usize) -> Result<u32, Stop>
         ensures { Reads (take_where may_stand room (input_from self.old)) result
             (input_from self.new) }
     {
@@ -183,7 +197,7 @@ impl<'t> Source<'t> {
 
     /// Takes this mark.
     #[tactic(auto, unfolding(reading::specs::Readers::expect))]
-    pub(crate) fn expect_mark(&mut self, number: u8, room: usize) -> Result<u32, Stop>
+    pub fn expect_mark(&mut self, number: u8, room: usize) -> Result<u32, Stop>
         ensures { Reads (expect_mark number room (input_from self.old)) result
             (input_from self.new) }
     {
@@ -193,7 +207,7 @@ impl<'t> Source<'t> {
 
     /// Takes this keyword.
     #[tactic(auto, unfolding(reading::specs::Readers::expect))]
-    pub(crate) fn expect_key(&mut self, number: u8, room: usize) -> Result<u32, Stop>
+    pub fn expect_key(&mut self, number: u8, room: usize) -> Result<u32, Stop>
         ensures { Reads (expect_key number room (input_from self.old)) result
             (input_from self.new) }
     {
@@ -203,7 +217,7 @@ impl<'t> Source<'t> {
 
     /// Takes a word that is no typedef name.
     #[tactic(auto, unfolding(reading::specs::Readers::expect))]
-    pub(crate) fn expect_name(&mut self, room: usize) -> Result<u32, Stop>
+    pub fn expect_name(&mut self, room: usize) -> Result<u32, Stop>
         ensures { Reads (expect_among a_name room (input_from self.old)) result
             (input_from self.new) }
     {
@@ -213,7 +227,7 @@ impl<'t> Source<'t> {
 
     /// Takes a word.
     #[tactic(auto, unfolding(reading::specs::Readers::expect))]
-    pub(crate) fn expect_any_name(&mut self, room: usize) -> Result<u32, Stop>
+    pub fn expect_any_name(&mut self, room: usize) -> Result<u32, Stop>
         ensures { Reads (expect_among any_name room (input_from self.old)) result
             (input_from self.new) }
     {
@@ -223,7 +237,7 @@ impl<'t> Source<'t> {
 
     /// Takes a typedef name.
     #[tactic(auto, unfolding(reading::specs::Readers::expect))]
-    pub(crate) fn expect_typedef_name(&mut self, room: usize) -> Result<u32, Stop>
+    pub fn expect_typedef_name(&mut self, room: usize) -> Result<u32, Stop>
         ensures { Reads (expect_among a_typedef_name room (input_from self.old)) result
             (input_from self.new) }
     {
@@ -233,7 +247,7 @@ impl<'t> Source<'t> {
 
     /// Takes a type specifier of one keyword.
     #[tactic(auto, unfolding(reading::specs::Readers::expect))]
-    pub(crate) fn expect_basic_type(&mut self, room: usize) -> Result<u32, Stop>
+    pub fn expect_basic_type(&mut self, room: usize) -> Result<u32, Stop>
         ensures { Reads (expect_among a_basic_type room (input_from self.old)) result
             (input_from self.new) }
     {
@@ -243,7 +257,7 @@ impl<'t> Source<'t> {
 
     /// Takes a string literal.
     #[tactic(auto, unfolding(reading::specs::Readers::expect))]
-    pub(crate) fn expect_text(&mut self, room: usize) -> Result<u32, Stop>
+    pub fn expect_text(&mut self, room: usize) -> Result<u32, Stop>
         ensures { Reads (expect_among (TEXT ∷ []) room (input_from self.old)) result
             (input_from self.new) }
     {
@@ -278,6 +292,16 @@ impl<'t> Source<'t> {
             (input_from self.new) }
     {
         let may_stand = self.is_at_unary();
+        self.take_if(may_stand, room)
+    }
+
+    /// Takes such an operator other than `*`.
+    #[tactic(auto, unfolding(reading::specs::Readers::expect))]
+    pub(crate) fn expect_other_unary(&mut self, room: usize) -> Result<u32, Stop>
+        ensures { Reads (expect_among other_unary room (input_from self.old)) result
+            (input_from self.new) }
+    {
+        let may_stand = self.is_at_other_unary();
         self.take_if(may_stand, room)
     }
 

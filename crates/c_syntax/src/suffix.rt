@@ -3,11 +3,11 @@
 ghost use Rattle.std.specs.Prelude.{◌≡◌, ◌-◌};
 ghost use Rattle.c_reading.specs.Reads.{Reads};
 ghost use Rattle.c_syntax.specs.ExpressionReaders as spec;
-ghost use Rattle.c_syntax.specs.Nests.{Nests, Gives};
+ghost use Rattle.c_syntax.specs.Gives.{Gives};
 ghost use Rattle.c_syntax.specs.Scoping.{input_from};
 
 use crate::forms::Parts;
-use crate::grammar::Grammar;
+use crate::grammar::{Grammar, Inner};
 use crate::source::Source;
 use c_lexer::mark::{
     MARK_ARROW, MARK_COMMA, MARK_DOT, MARK_LEFT_BRACKET, MARK_LEFT_PAREN, MARK_RIGHT_BRACKET,
@@ -18,43 +18,29 @@ use c_tree::{Assign, Expr, Post, list_of_one, two_marks};
 use joern_io::List;
 use std::alloc::Global;
 
-impl<F: Fn(Global, usize, &mut Source<'_>) -> Result<Assign, Stop>> Grammar<F> {
-    pub(crate) fn inner(&self, source: &mut Source<'_>) -> Result<Assign, Stop>
-        requires { Nests self.now.room (F.pre self.now.assign) (F.post self.now.assign) }
-        ensures { Reads (spec.assign self.now.room (input_from source.old)) result
-            (input_from source.new) }
-    {
-        (self.assign)(self.alloc, self.room, source)
-    }
-
-    pub(crate) fn deeper(&self) -> usize
-        ensures { result ≡ self.now.room - 1 }
-    {
-        self.room.saturating_sub(1)
-    }
-
+impl<N: Inner> Grammar<N> {
     /// A comma and one more.
     #[tactic(auto, unfolding(crate::specs::ExpressionReaders::more_parts))]
     pub(crate) fn more_parts(&self, parts: Parts, source: &mut Source<'_>) -> Result<Parts, Stop>
-        requires { Nests self.now.room (F.pre self.now.assign) (F.post self.now.assign) }
+        requires { N.can_read self.now.inner self.now.room }
         ensures { Gives (λ room inner. spec.more_parts room inner parts)
-            self.now.room source.old result source.new }
+            self.now.room (N.readers self.now.inner) source.old result source.new }
     {
         let Parts {
             mut parts,
             mut marks,
         } = parts;
         let comma = source.expect_mark(MARK_COMMA, self.deeper())?;
-        let part = self.inner(source)?;
+        let part = self.inner_assign(source)?;
         parts.push(part)?;
         marks.push(comma)?;
         Ok(Parts { parts, marks })
     }
 
     pub(crate) fn all_parts(&self, parts: Parts, source: &mut Source<'_>) -> Result<Parts, Stop>
-        requires { Nests self.now.room (F.pre self.now.assign) (F.post self.now.assign) }
+        requires { N.can_read self.now.inner self.now.room }
         ensures { Gives (λ room inner. spec.all_parts room inner parts)
-            self.now.room source.old result source.new }
+            self.now.room (N.readers self.now.inner) source.old result source.new }
     {
         let mut parts = parts;
         for _turn in 0..source.left() {
@@ -69,20 +55,21 @@ impl<F: Fn(Global, usize, &mut Source<'_>) -> Result<Assign, Stop>> Grammar<F> {
     /// One or more, after these marks.
     #[tactic(auto, unfolding(crate::specs::ExpressionReaders::parts))]
     pub(crate) fn parts(&self, marks: List<u32>, source: &mut Source<'_>) -> Result<Parts, Stop>
-        requires { Nests self.now.room (F.pre self.now.assign) (F.post self.now.assign) }
+        requires { N.can_read self.now.inner self.now.room }
         ensures { Gives (λ room inner. spec.parts room inner marks)
-            self.now.room source.old result source.new }
+            self.now.room (N.readers self.now.inner) source.old result source.new }
     {
-        let first = self.inner(source)?;
+        let first = self.inner_assign(source)?;
         let parts = list_of_one(self.alloc, first)?;
         self.all_parts(Parts { parts, marks }, source)
     }
 
     /// An expression one level deeper (6.5.17).
     #[tactic(auto, unfolding(crate::specs::ExpressionReaders::inner_expr))]
-    pub(crate) fn inner_expr(&self, source: &mut Source<'_>) -> Result<Expr, Stop>
-        requires { Nests self.now.room (F.pre self.now.assign) (F.post self.now.assign) }
-        ensures { Gives spec.inner_expr self.now.room source.old result source.new }
+    pub fn inner_expr(&self, source: &mut Source<'_>) -> Result<Expr, Stop>
+        requires { N.can_read self.now.inner self.now.room }
+        ensures { Gives spec.inner_expr
+            self.now.room (N.readers self.now.inner) source.old result source.new }
     {
         let Parts { parts, marks } = self.parts(List::new(self.alloc), source)?;
         Ok(Expr { parts, marks })
@@ -90,8 +77,9 @@ impl<F: Fn(Global, usize, &mut Source<'_>) -> Result<Assign, Stop>> Grammar<F> {
 
     #[tactic(auto, unfolding(crate::specs::ExpressionReaders::index))]
     pub(crate) fn index(&self, source: &mut Source<'_>) -> Result<Post, Stop>
-        requires { Nests self.now.room (F.pre self.now.assign) (F.post self.now.assign) }
-        ensures { Gives spec.index self.now.room source.old result source.new }
+        requires { N.can_read self.now.inner self.now.room }
+        ensures { Gives spec.index
+            self.now.room (N.readers self.now.inner) source.old result source.new }
     {
         let left = source.expect_mark(MARK_LEFT_BRACKET, self.deeper())?;
         let expr = self.inner_expr(source)?;
@@ -101,9 +89,9 @@ impl<F: Fn(Global, usize, &mut Source<'_>) -> Result<Assign, Stop>> Grammar<F> {
 
     #[tactic(auto, unfolding(crate::specs::ExpressionReaders::no_arguments))]
     pub(crate) fn no_arguments(&self, left: u32, source: &mut Source<'_>) -> Result<Post, Stop>
-        requires { Nests self.now.room (F.pre self.now.assign) (F.post self.now.assign) }
+        requires { N.can_read self.now.inner self.now.room }
         ensures { Gives (λ room inner. spec.no_arguments room inner left)
-            self.now.room source.old result source.new }
+            self.now.room (N.readers self.now.inner) source.old result source.new }
     {
         let right = source.expect_mark(MARK_RIGHT_PAREN, self.deeper())?;
         let marks = two_marks(self.alloc, left, right)?;
@@ -112,9 +100,9 @@ impl<F: Fn(Global, usize, &mut Source<'_>) -> Result<Assign, Stop>> Grammar<F> {
 
     #[tactic(auto, unfolding(crate::specs::ExpressionReaders::some_arguments))]
     pub(crate) fn some_arguments(&self, left: u32, source: &mut Source<'_>) -> Result<Post, Stop>
-        requires { Nests self.now.room (F.pre self.now.assign) (F.post self.now.assign) }
+        requires { N.can_read self.now.inner self.now.room }
         ensures { Gives (λ room inner. spec.some_arguments room inner left)
-            self.now.room source.old result source.new }
+            self.now.room (N.readers self.now.inner) source.old result source.new }
     {
         let Parts { parts, mut marks } = self.parts(list_of_one(self.alloc, left)?, source)?;
         marks.push(source.expect_mark(MARK_RIGHT_PAREN, self.deeper())?)?;
@@ -123,8 +111,9 @@ impl<F: Fn(Global, usize, &mut Source<'_>) -> Result<Assign, Stop>> Grammar<F> {
 
     #[tactic(auto, unfolding(crate::specs::ExpressionReaders::call))]
     pub(crate) fn call(&self, source: &mut Source<'_>) -> Result<Post, Stop>
-        requires { Nests self.now.room (F.pre self.now.assign) (F.post self.now.assign) }
-        ensures { Gives spec.call self.now.room source.old result source.new }
+        requires { N.can_read self.now.inner self.now.room }
+        ensures { Gives spec.call
+            self.now.room (N.readers self.now.inner) source.old result source.new }
     {
         let left = source.expect_mark(MARK_LEFT_PAREN, self.deeper())?;
         if source.is_at_mark(MARK_RIGHT_PAREN) {
@@ -136,8 +125,9 @@ impl<F: Fn(Global, usize, &mut Source<'_>) -> Result<Assign, Stop>> Grammar<F> {
 
     #[tactic(auto, unfolding(crate::specs::ExpressionReaders::dot))]
     pub(crate) fn dot(&self, source: &mut Source<'_>) -> Result<Post, Stop>
-        requires { Nests self.now.room (F.pre self.now.assign) (F.post self.now.assign) }
-        ensures { Gives spec.dot self.now.room source.old result source.new }
+        requires { N.can_read self.now.inner self.now.room }
+        ensures { Gives spec.dot
+            self.now.room (N.readers self.now.inner) source.old result source.new }
     {
         let mark = source.expect_mark(MARK_DOT, self.room)?;
         let name = source.expect_any_name(self.room)?;
@@ -146,8 +136,9 @@ impl<F: Fn(Global, usize, &mut Source<'_>) -> Result<Assign, Stop>> Grammar<F> {
 
     #[tactic(auto, unfolding(crate::specs::ExpressionReaders::arrow))]
     pub(crate) fn arrow(&self, source: &mut Source<'_>) -> Result<Post, Stop>
-        requires { Nests self.now.room (F.pre self.now.assign) (F.post self.now.assign) }
-        ensures { Gives spec.arrow self.now.room source.old result source.new }
+        requires { N.can_read self.now.inner self.now.room }
+        ensures { Gives spec.arrow
+            self.now.room (N.readers self.now.inner) source.old result source.new }
     {
         let mark = source.expect_mark(MARK_ARROW, self.room)?;
         let name = source.expect_any_name(self.room)?;
@@ -156,8 +147,9 @@ impl<F: Fn(Global, usize, &mut Source<'_>) -> Result<Assign, Stop>> Grammar<F> {
 
     #[tactic(auto, unfolding(crate::specs::ExpressionReaders::step))]
     pub(crate) fn step(&self, source: &mut Source<'_>) -> Result<Post, Stop>
-        requires { Nests self.now.room (F.pre self.now.assign) (F.post self.now.assign) }
-        ensures { Gives spec.step self.now.room source.old result source.new }
+        requires { N.can_read self.now.inner self.now.room }
+        ensures { Gives spec.step
+            self.now.room (N.readers self.now.inner) source.old result source.new }
     {
         Ok(Post::Step(source.expect_step(self.room)?))
     }
@@ -165,8 +157,9 @@ impl<F: Fn(Global, usize, &mut Source<'_>) -> Result<Assign, Stop>> Grammar<F> {
     /// 6.5.2.
     #[tactic(auto, unfolding(crate::specs::ExpressionReaders::suffix))]
     pub(crate) fn suffix(&self, source: &mut Source<'_>) -> Result<Post, Stop>
-        requires { Nests self.now.room (F.pre self.now.assign) (F.post self.now.assign) }
-        ensures { Gives spec.suffix self.now.room source.old result source.new }
+        requires { N.can_read self.now.inner self.now.room }
+        ensures { Gives spec.suffix
+            self.now.room (N.readers self.now.inner) source.old result source.new }
     {
         if source.is_at_mark(MARK_LEFT_BRACKET) {
             self.index(source)
@@ -187,9 +180,9 @@ impl<F: Fn(Global, usize, &mut Source<'_>) -> Result<Assign, Stop>> Grammar<F> {
         suffixes: List<Post>,
         source: &mut Source<'_>,
     ) -> Result<List<Post>, Stop>
-        requires { Nests self.now.room (F.pre self.now.assign) (F.post self.now.assign) }
+        requires { N.can_read self.now.inner self.now.room }
         ensures { Gives (λ room inner. spec.more_suffixes room inner suffixes)
-            self.now.room source.old result source.new }
+            self.now.room (N.readers self.now.inner) source.old result source.new }
     {
         let mut suffixes = suffixes;
         suffixes.push(self.suffix(source)?)?;
@@ -197,8 +190,9 @@ impl<F: Fn(Global, usize, &mut Source<'_>) -> Result<Assign, Stop>> Grammar<F> {
     }
 
     pub(crate) fn all_suffixes(&self, source: &mut Source<'_>) -> Result<List<Post>, Stop>
-        requires { Nests self.now.room (F.pre self.now.assign) (F.post self.now.assign) }
-        ensures { Gives spec.all_suffixes self.now.room source.old result source.new }
+        requires { N.can_read self.now.inner self.now.room }
+        ensures { Gives spec.all_suffixes
+            self.now.room (N.readers self.now.inner) source.old result source.new }
     {
         let mut suffixes = List::new(self.alloc);
         for _turn in 0..source.left() {

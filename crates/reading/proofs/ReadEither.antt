@@ -7,7 +7,7 @@ use Rattle.reading.specs.Rules.{Rule, ◌>>=◌, ◌or◌, pure, one}
 use Rattle.reading.specs.Readers as reader
 use Rattle.reading.specs.Readers.{Reader, Input, begins, branch, and_then, expect}
 use Rattle.reading.specs.Exact.{IsExact}
-use Rattle.reading.proofs.Sets.{never, within, within_itself, within_left, within_right, in_union, disjoint}
+use Rattle.reading.proofs.Sets.{never, within, within_itself, within_left, within_right, in_union, disjoint, disjoint_from_part}
 use Rattle.reading.proofs.Words.{Some, Ready, ready_in, same_word}
 use Rattle.reading.proofs.PredictiveEither.{predictive_either}
 use Rattle.reading.proofs.ExactEither.{exact_left, exact_right}
@@ -90,6 +90,38 @@ module _ {Token Scope Around : Type 0} {terminal_of : Scope → Token → ℕ} {
       IsReadBy terminal_of IsLexeme stage given X p no first_x last → IsReadBy terminal_of IsLexeme stage given Y q no first_y last → are_disjoint first_y first_x ≡ true →
       IsReadBy terminal_of IsLexeme stage given (λ d. X d or Y d) (branch terminal_of first_x p q) no (first_x ++ first_y) last
   read_either {last = last} rx ry against = read_or last rx ry against (λ a. within_itself (last a)) (λ a. within_itself (last a)) (λ d scope end y. refl)
+
+  -- The first part is chosen where the next token is of a set that may have more than what begins it.
+  module _ {X Y : ℕ → Rule Token Scope A} {p q : Reader Token Scope Around A} {first_x first_y : List ℕ} {last : A → List ℕ} (set : List ℕ)
+      (rx : IsReadBy terminal_of IsLexeme stage given X p no first_x last) (ry : IsReadBy terminal_of IsLexeme stage given Y q no first_y last)
+      (fits : is_within first_x set ≡ true) (against : are_disjoint first_y set ≡ true) where
+    chosen_at : IsWhole stage → given → (around : Around) (scope : Scope) (ts : List Token) (b : Bool) → begins (λ t. has set (terminal_of scope t)) ts ≡ b →
+        IsExact IsLexeme around (λ d. (X d or Y d) scope) ts
+        (if b then p (record { tokens = ts; scope = scope; around = around }) else q (record { tokens = ts; scope = scope; around = around }))
+    chosen_at s g around scope [] true h = never h
+    chosen_at s g around scope (t ∷ ts) true h =
+        exact_left IsLexeme around (λ d. X d scope) (λ d. Y d scope) false (λ t. has first_x (terminal_of scope t)) (λ t. has first_y (terminal_of scope t))
+        (λ end t. has (last end.0) (terminal_of end.1 t)) (λ end t. has (last end.0) (terminal_of end.1 t))
+        (λ d. rx.predictive d (covers_all stage s d) scope) (λ d. ry.predictive d (covers_all stage s d) scope) (λ t. has set (terminal_of scope t))
+        (λ t. disjoint first_y set against (terminal_of scope t)) t ts h (λ e. never e)
+        (p (record { tokens = t ∷ ts; scope = scope; around = around })) (rx.exact s g around scope (t ∷ ts))
+    chosen_at s g around scope ts false h =
+        exact_right IsLexeme around (λ d. X d scope) (λ d. Y d scope) false (λ t. has first_x (terminal_of scope t)) (λ t. has first_y (terminal_of scope t))
+        (λ end t. has (last end.0) (terminal_of end.1 t)) (λ end t. has (last end.0) (terminal_of end.1 t))
+        (λ d. rx.predictive d (covers_all stage s d) scope) (λ d. ry.predictive d (covers_all stage s d) scope) (λ t. has set (terminal_of scope t))
+        (λ t. within first_x set fits (terminal_of scope t)) ts h
+        (q (record { tokens = ts; scope = scope; around = around })) (ry.exact s g around scope ts)
+
+    pub read_chosen : IsReadBy terminal_of IsLexeme stage given (λ d. X d or Y d) (branch terminal_of set p q) no (first_x ++ first_y) last
+    read_chosen =
+        let r = read_either rx ry (disjoint_from_part first_y first_x set fits against) in record {
+          predictive = r.predictive;
+          keeps = r.keeps;
+          some = r.some;
+          exact = λ s g around scope ts. chosen_at s g around scope ts (begins (λ t. has set (terminal_of scope t)) ts) refl;
+          ready = r.ready;
+          empty = r.empty;
+        }
 
   -- A part that is not nullable, or nothing.
   pub read_optional : {X : ℕ → Rule Token Scope A} {p : Reader Token Scope Around A} {first : List ℕ} {last : A → List ℕ} (last' : A → List ℕ) (a : A) →

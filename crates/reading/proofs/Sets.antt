@@ -49,20 +49,45 @@ disjoint (terminal ∷ set) other h n g l =
     disjoint_at (terminal == n) terminal n set other refl (both_left (not (has other terminal)) _ h)
     (disjoint set other (both_right (not (has other terminal)) _ h) n) g l
 
--- A set is within itself, and within one that has more.
+has_first : (terminal : ℕ) (set : List ℕ) → has (terminal ∷ set) terminal ≡ true
+has_first terminal set = rw (eq-eqb terminal terminal refl) refl
+
 or_true : (a b : Bool) → b ≡ true → (a || b) ≡ true
 or_true true b e = refl
 or_true false b e = e
 
+-- A part of a set is disjoint from what the set is disjoint from.
+not_in_part : (part set : List ℕ) → is_within part set ≡ true → (n : ℕ) (b : Bool) → has part n ≡ b → not (has set n) ≡ true → not b ≡ true
+not_in_part part set h n true e f = absurd (not_true (has set n) f (within part set h n e))
+not_in_part part set h n false e f = refl
+
+pub disjoint_from_part : (other part set : List ℕ) → is_within part set ≡ true → are_disjoint other set ≡ true → are_disjoint other part ≡ true
+disjoint_from_part [] part set h e = refl
+disjoint_from_part (n ∷ other) part set h e =
+    both _ _ (not_in_part part set h n (has part n) refl (both_left (not (has set n)) _ e))
+    (disjoint_from_part other part set h (both_right (not (has set n)) _ e))
+
+-- Elements that are not in a set, one by one.
+none_in : (set other : List ℕ) → ((n : ℕ) → has set n ≡ true → has other n ≡ true → ⊥) → are_disjoint set other ≡ true
+none_in [] other h = refl
+none_in (n ∷ set) other h =
+    both _ _ (not_both (has other n) (h n (has_first n set)))
+    (none_in set other (λ m e. h m (or_true (n == m) (has set m) e)))
+  where
+    not_both : (b : Bool) → (b ≡ true → ⊥) → not b ≡ true
+    not_both true k = absurd (k refl)
+    not_both false k = refl
+
+pub disjoint_part : (part set other : List ℕ) → is_within part set ≡ true → are_disjoint set other ≡ true → are_disjoint part other ≡ true
+disjoint_part part set other h e = none_in part other (λ n f g. disjoint set other e n (within part set h n f) g)
+
+-- A set is within itself, and within one that has more.
 within_more : (terminal : ℕ) (set other : List ℕ) → is_within set other ≡ true →
     is_within set (terminal ∷ other) ≡ true
 within_more terminal [] other h = refl
 within_more terminal (n ∷ set) other h =
     both _ _ (or_true (terminal == n) (has other n) (both_left (has other n) _ h))
     (within_more terminal set other (both_right (has other n) _ h))
-
-has_first : (terminal : ℕ) (set : List ℕ) → has (terminal ∷ set) terminal ≡ true
-has_first terminal set = rw (eq-eqb terminal terminal refl) refl
 
 pub within_itself : (set : List ℕ) → is_within set set ≡ true
 within_itself [] = refl

@@ -1,10 +1,10 @@
 use Rattle.std.proofs.Common.{◌≡◌, ◌-◌}
 use Rattle.reading.specs.Readers.{turn_on, repeat}
 use Rattle.c_syntax.specs.Scoping.{input_from}
-use Rattle.c_syntax.specs.ExpressionReaders.{all_items, item, assign}
+use Rattle.c_syntax.specs.ExpressionReaders.{all_items, item}
 use Rattle.c_syntax.proofs.grammar.Grammar.all_items.Given as goal
 
 abbrev pub invariant-loop-turn : goal.invariant-loop-turn
 invariant-loop-turn g l =
-    all_items l.self.room (assign l.self.room) l.fn.items (input_from l.fn.source)
-    ≡ turn_on (item l.self.room (assign l.self.room)) (l._turn-end - l._turn) l.items (input_from l.source)
+    all_items l.self.room (g.N.Inner.readers l.self.inner l.self.room) l.fn.items (input_from l.fn.source)
+    ≡ turn_on (item l.self.room (g.N.Inner.readers l.self.inner l.self.room)) (l._turn-end - l._turn) l.items (input_from l.source)

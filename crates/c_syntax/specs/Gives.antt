@@ -1,0 +1,14 @@
+-- That a function gives what the reader of a rule gives.
+
+use Rattle.std.specs.Prelude.{ℕ, Result}
+use Rattle.c_reading.specs.declared.stop.Stop.{Stop}
+use Rattle.c_reading.specs.Reads.{Reads}
+use Rattle.c_syntax.specs.declared.source.Source.{Source}
+use Rattle.c_syntax.specs.Scoping.{PartReader, input_from}
+use Rattle.c_syntax.specs.Inner.{InnerReaders}
+
+-- The reader has room for so many levels, and what stands in brackets is read one level deeper.
+abbrev pub Gives : {A : Type 0} → (ℕ → InnerReaders → PartReader A) → ℕ → (ℕ → InnerReaders) →
+    Source → Result A Stop → Source → Type 0
+Gives reader room readers old result new =
+    Reads (reader room (readers room) (input_from old)) result (input_from new)
