@@ -95,27 +95,28 @@ impl<N: Inside> Grammar<N> {
     ) -> Result<InitDeclarator, Stop>
         requires inside { N.can_read self.now.inside self.now.room }
         requires value { N.can_read_value self.now.inside self.now.room }
-        ensures { GivesHere (λ room inner value. spec.bit_field room inner value named)
+        ensures { GivesHere (λ room inner value. spec.bit_field room inner value named.entry)
             AssignForm.Constant self.now.room (N.readers self.now.inside)
             source.old result source.new }
     {
         let colon = source.expect_mark(MARK_COLON, self.room)?;
         let width = self.value(AssignForm::Constant, source)?;
         let width = Boxed::new(self.alloc, Expr::sole(self.alloc, width)?)?;
+        let Named { declarator, .. } = named;
         let Declarator {
             pointers,
             core,
             suffixes,
             ..
-        } = named.declarator;
-        let declarator = Declarator {
+        } = declarator;
+        let with_width = Declarator {
             pointers,
             core,
             suffixes,
             width: Some(width),
             marks: list_of_one(self.alloc, colon)?,
         };
-        Ok(self.undefined(declarator))
+        Ok(self.undefined(with_width))
     }
 
     #[tactic(auto, unfolding(crate::specs::DeclarationReaders::named_member))]
@@ -340,7 +341,7 @@ impl<N: Inside> Grammar<N> {
     ) -> Result<InitDeclarator, Stop>
         requires inside { N.can_read self.now.inside self.now.room }
         requires value { N.can_read_value self.now.inside self.now.room }
-        ensures { GivesHere (λ room inner value. spec.initialised room inner value named)
+        ensures { GivesHere (λ room inner value. spec.initialised room inner value named.entry)
             AssignForm.Whole self.now.room (N.readers self.now.inside)
             source.old result source.new }
     {

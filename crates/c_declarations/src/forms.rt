@@ -245,7 +245,7 @@ impl<'t> Named<'t> {
         suffixes: List<Suffix>,
         name: Option<Word<'t>>,
     ) -> Named<'t>
-        ensures { result ≡ spec.declared_of pointing core suffixes name }
+        ensures { result ≡ spec.declared_of pointing core suffixes name.entry }
     {
         let declarator = Declarator {
             pointers: pointing.pointers,
@@ -264,7 +264,7 @@ impl<'t> Named<'t> {
         word: Word<'t>,
         suffixes: List<Suffix>,
     ) -> Named<'t>
-        ensures { result ≡ spec.named_of pointing word suffixes }
+        ensures { result ≡ spec.named_of pointing word.entry suffixes }
     {
         let core = Core::Name(word.token);
         Named::of(alloc, pointing, core, suffixes, Some(word))

@@ -392,7 +392,7 @@ impl<N: Inside> Grammar<N> {
         source: &mut Source<'t>,
     ) -> Result<NamedEnumerator<'t>, Stop>
         requires { N.can_read self.now.inside self.now.room }
-        ensures { Gives (λ room inner. spec.enumerator_value room inner word)
+        ensures { Gives (λ room inner. spec.enumerator_value room inner word.entry)
             self.now.room (N.readers self.now.inside) source.old result source.new }
     {
         let equals = source.expect_mark(MARK_EQUAL, self.deeper())?;

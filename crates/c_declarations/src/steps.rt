@@ -285,7 +285,7 @@ pub(crate) fn enter(source: &mut Source<'_>) -> Result<(), Stop>
 /// Leaves the innermost scope.
 #[tactic(auto, unfolding(c_reading::specs::Cursors::input_at))]
 pub(crate) fn leave(source: &mut Source<'_>)
-    ensures { step.leave tt (input_from source.old) ≡ Ok (tt, input_from source.new) }
+    ensures { step.leave (tt {0}) (input_from source.old) ≡ Ok (tt {0}, input_from source.new) }
 {
     source.scopes.leave();
 }
