@@ -1,6 +1,7 @@
 -- Files are read exactly (C11 6.9), a term a rule.
 
 use Rattle.std.proofs.Common.{◌≡◌, ℕ, true, List, [], ◌∷◌, ◌++◌, refl, sym, ap, ◌∙◌, subst, append-nil, append_assoc}
+use Rattle.c_lexer.specs.declared.keyword.TheConstants.{KEY_STATIC_ASSERT}
 use Rattle.c_lexer.specs.declared.mark.TheConstants.{MARK_LEFT_BRACKET, MARK_LEFT_PAREN}
 use Rattle.c_tree.specs.declared.tree.Block.{Block}
 use Rattle.c_tree.specs.declared.tree.Declaration.{Declaration}
@@ -8,7 +9,7 @@ use Rattle.c_tree.specs.declared.tree.Item.{Item}
 use Rattle.c_tree.specs.declared.tree.Item.TheVariants as item_
 use Rattle.c_tree.specs.declared.tree.Unit.{Unit}
 use Rattle.c_scopes.specs.Scopes.{OpenScopes, left}
-use Rattle.reading.specs.Terminals.{has, is_within}
+use Rattle.reading.specs.Terminals.{has, is_within, are_disjoint}
 use Rattle.reading.specs.Languages.{Leveled, tokens_of}
 use Rattle.reading.specs.Rules.{Rule}
 use Rattle.reading.specs.Readers.{Reader, Outcome, and_then}
@@ -20,19 +21,21 @@ use Rattle.reading.proofs.Predictive.{predictive_weaker}
 use Rattle.reading.proofs.ReadBy.{Stage, whole, Nullable, no, keeping, IsReadBy}
 use Rattle.reading.proofs.ReadOne.{HasRoom}
 use Rattle.reading.proofs.ReadThen.{read_then, read_map}
+use Rattle.reading.proofs.ReadEither.{read_either}
 use Rattle.reading.proofs.ReadSteps.{read_many}
 use Rattle.reading.proofs.ReadChanging.{read_changing}
 use Rattle.c_reading.specs.Kept.{KeptToken}
 use Rattle.c_reading.specs.Cursors.{Around}
-use Rattle.c_reading.specs.Terminals.{mark}
+use Rattle.c_reading.specs.Terminals.{mark, key}
 use Rattle.c_syntax.specs.Scoping.{Part, PartReader, terminal_of}
-use Rattle.c_stmt.specs.StatementSets.{a_left_brace, begins_declaration}
+use Rattle.c_syntax.specs.Sets.{a_typedef_name}
+use Rattle.c_stmt.specs.StatementSets.{a_left_brace, a_specifier, begins_declaration}
 use Rattle.c_stmt.specs.Below.{Below, BelowReaders}
 use Rattle.c_stmt.specs.Statements.{block, read_block}
 use Rattle.c_stmt.proofs.StatementReadings.{Tokens, IsRead, BelowAreRead, fixed, nothing}
 use Rattle.c_stmt.proofs.Apart.{NoneBegins}
 use Rattle.c_stmt.proofs.WholeStatements.{block_is_read_on}
-use Rattle.c_unit.specs.Heads.{Head}
+use Rattle.c_unit.specs.Parts.{Head, Parts, PartReaders}
 use Rattle.c_unit.specs.UnitRules as lang
 use Rattle.c_unit.specs.UnitRules.{Defined, defined, item_of, with_function, behind_function}
 use Rattle.c_unit.specs.UnitReaders as read
@@ -56,14 +59,26 @@ read_first {terminal_of = terminal_of} {first = first} first' to from r = record
 abbrev pub begins_suffix : List ℕ
 begins_suffix = mark MARK_LEFT_BRACKET ∷ mark MARK_LEFT_PAREN ∷ []
 
--- A definition's head is read exactly, no declaration goes on from one with `{`, and none begins one.
-pub record HeadIsRead (tokens : Tokens) (below : Below) (head : ℕ → Part Head) (reader : ℕ → PartReader Head) : Type 1 where
-  pub begins : List ℕ
-  pub within_declaration : is_within begins begins_declaration ≡ true
-  pub is_read : (stage : Stage) (given : Type 0) {room : ℕ} → HasRoom stage 0 room → IsRead tokens stage given head (reader room) no begins (λ h. begins_suffix)
-  pub not_declaration : (turns : ℕ) (scopes : OpenScopes) (v w : List (Leveled KeptToken)) (a : Head × OpenScopes) (b : Declaration × OpenScopes) (t : KeptToken) (us : List KeptToken) →
-      head turns scopes v a → below.declaration turns 0 scopes w b → has a_left_brace (terminal_of scopes t) ≡ true → tokens_of w ≡ tokens_of v ++ t ∷ us → ⊥
-  pub not_beyond : (turns : ℕ) (scopes : OpenScopes) → NoneBegins (head turns scopes) (below.declaration turns 0 scopes)
+-- The parts of a file are read exactly. No declaration begins, behind its specifiers, with a definition's
+-- declarator and `{`, and none is the beginning of such a declarator.
+pub record PartsAreRead (tokens : Tokens) {Specified : Type 0} (parts : Parts Specified) (readers : PartReaders Specified) : Type 1 where
+  pub after_specifiers : Specified → List ℕ
+  pub begins_head : Specified → List ℕ
+  pub begins_names : Specified → List ℕ
+  pub within_names : (s : Specified) → is_within (begins_head s) (begins_names s) ≡ true
+  pub apart : (s : Specified) → are_disjoint (after_specifiers s) (begins_names s) ≡ true
+  pub assertion : (stage : Stage) (given : Type 0) {room : ℕ} → HasRoom stage 0 room →
+      IsRead tokens stage given parts.assertion (readers.assertion room) no (key KEY_STATIC_ASSERT ∷ []) nothing
+  pub specifiers : (stage : Stage) (given : Type 0) {room : ℕ} → HasRoom stage 0 room →
+      IsRead tokens stage given parts.specifiers (readers.specifiers room) no (a_typedef_name ++ a_specifier) after_specifiers
+  pub head : (stage : Stage) (given : Type 0) {room : ℕ} → HasRoom stage 0 room → (s : Specified) →
+      IsRead tokens stage given (λ d. parts.head d s) (readers.head room s) no (begins_head s) (λ h. begins_suffix)
+  pub names : (stage : Stage) (given : Type 0) {room : ℕ} → HasRoom stage 0 room → (s : Specified) →
+      IsRead tokens stage given (λ d. parts.names d s) (readers.names room s) no (begins_names s) nothing
+  pub not_declaration : (turns : ℕ) (s : Specified) (scopes : OpenScopes) (v w : List (Leveled KeptToken)) (a : Head × OpenScopes) (b : Declaration × OpenScopes) (t : KeptToken)
+      (us : List KeptToken) → parts.head turns s scopes v a → parts.names turns s scopes w b → has a_left_brace (terminal_of scopes t) ≡ true →
+      tokens_of w ≡ tokens_of v ++ t ∷ us → ⊥
+  pub not_beyond : (turns : ℕ) (s : Specified) (scopes : OpenScopes) → NoneBegins (parts.head turns s scopes) (parts.names turns s scopes)
 
 within_union : (set other all : List ℕ) → is_within set all ≡ true → is_within other all ≡ true → is_within (set ++ other) all ≡ true
 within_union [] other all h k = k
@@ -76,8 +91,8 @@ Word' = List (Leveled KeptToken)
 all_front : (w front back : Word') → w ≡ front ++ back → back ≡ [] → w ≡ front
 all_front w front back e f = e ∙ (ap (λ r. front ++ r) f ∙ append-nil front)
 
-module _ (tokens : Tokens) (below : Below) (below_readers : BelowReaders) (rb : BelowAreRead tokens below below_readers) (head : ℕ → Part Head) (read_head : ℕ → PartReader Head)
-    (rh : HeadIsRead tokens below head read_head) where
+module _ (tokens : Tokens) {Specified : Type 0} (below : Below) (below_readers : BelowReaders) (rb : BelowAreRead tokens below below_readers) (parts : Parts Specified)
+    (readers : PartReaders Specified) (rp : PartsAreRead tokens parts readers) where
   -- ---- Function definitions (6.9.1)
 
   abbrev room : ℕ
@@ -86,109 +101,125 @@ module _ (tokens : Tokens) (below : Below) (below_readers : BelowReaders) (rb : 
   fits : HasRoom whole 0 room
   fits = record { is = λ s. refl }
 
-  named_head_is_read : {given : Type 0} → IsRead tokens whole given (λ d. lang.named_head below head d) (read.named_head below_readers read_head room) no rh.begins (λ h. begins_suffix)
+  named_head_is_read : {given : Type 0} (s : Specified) → IsRead tokens whole given (λ d. lang.named_head below parts d s) (read.named_head below_readers parts.is_typedef readers room s) no (rp.begins_head s) (λ h. begins_suffix)
   unfolding lang.named_head read.named_head
-  named_head_is_read = read_changing with_function (λ h. h) (λ h. begins_suffix) (rh.is_read whole _ fits) (λ h. fixed begins_suffix refl) (λ h. refl)
+  named_head_is_read s = read_changing with_function (λ h. h) (λ h. begins_suffix) (rp.head whole _ fits s) (λ h. fixed begins_suffix refl) (λ h. refl)
 
   body_is_read : {given : Type 0} → IsRead tokens whole given (λ d. block below d 0) (read_block below_readers room) no a_left_brace nothing
   body_is_read = block_is_read_on tokens below below_readers rb 0 room refl
 
-  whole_function_is_read : {given : Type 0} → IsRead tokens whole given (λ d. lang.whole_function below head d) (read.whole_function below_readers read_head room) no rh.begins nothing
+  whole_function_is_read : {given : Type 0} (s : Specified) → IsRead tokens whole given (λ d. lang.whole_function below parts d s) (read.whole_function below_readers parts.is_typedef readers room s) no (rp.begins_head s) nothing
   unfolding lang.whole_function read.whole_function
-  whole_function_is_read =
-      read_then nothing named_head_is_read (λ h. read_map (defined h) nothing body_is_read (λ b. refl)) (λ h. refl) (λ b. refl) (λ h b. refl)
+  whole_function_is_read s =
+      read_then nothing (named_head_is_read s) (λ h. read_map (defined h) nothing body_is_read (λ b. refl)) (λ h. refl) (λ b. refl) (λ h b. refl)
 
-  definition_is_read : {given : Type 0} → IsRead tokens whole given (λ d. lang.definition below head d) (read.definition below_readers read_head room) no rh.begins nothing
+  definition_is_read : {given : Type 0} (s : Specified) → IsRead tokens whole given (λ d. lang.definition below parts d s) (read.definition below_readers parts.is_typedef readers room s) no (rp.begins_head s) nothing
   unfolding lang.definition read.definition
-  definition_is_read = read_changing (λ w. behind_function) item_of nothing whole_function_is_read (λ w. fixed [] refl) (λ w. refl)
+  definition_is_read s = read_changing (λ w. behind_function) item_of nothing (whole_function_is_read s) (λ w. fixed [] refl) (λ w. refl)
 
-  declaration_item_is_read : {given : Type 0} →
-      IsRead tokens whole given (λ d. lang.declaration_item below head d) (read.declaration_item below_readers read_head room) no begins_declaration nothing
-  unfolding lang.declaration_item read.declaration_item
-  declaration_item_is_read = read_map item_.Declare nothing (rb.declaration whole _ fits) (λ d. refl)
+  names_item_is_read : {given : Type 0} (s : Specified) →
+      IsRead tokens whole given (λ d. lang.names_item below parts d s) (read.names_item below_readers parts.is_typedef readers room s) no (rp.begins_names s) nothing
+  unfolding lang.names_item read.names_item
+  names_item_is_read s = read_map item_.Declare nothing (rp.names whole _ fits s) (λ d. refl)
 
   -- ---- No declaration begins a definition, nor the other way round
 
   -- A head and a brace behind it.
-  record IsFunction (d : ℕ) (scopes : OpenScopes) (w : Word') : Type 0 where
+  record IsFunction (d : ℕ) (s : Specified) (scopes : OpenScopes) (w : Word') : Type 0 where
     front : Word'
     value : Head × OpenScopes
     brace : KeptToken
     rest : List KeptToken
     is : tokens_of w ≡ tokens_of front ++ brace ∷ rest
-    begin : head d scopes front value
+    begin : parts.head d s scopes front value
     fits : has a_left_brace (terminal_of scopes brace) ≡ true
 
-  with_brace : (d : ℕ) (scopes scopes' : OpenScopes) (w front back : Word') (a : Head × OpenScopes) (b : Block × OpenScopes) → head d scopes front a → tokens_of w ≡ tokens_of front ++ tokens_of back →
-      block below d 0 scopes' back b → IsFunction d scopes w
-  with_brace d scopes scopes' w front [] a b h e x = never (((body_is_read {given = Prim.Unit {0}}).predictive d tt scopes').nullable b x)
-  with_brace d scopes scopes' w front (s ∷ back) a b h e x = record {
+  with_brace : (d : ℕ) (s : Specified) (scopes scopes' : OpenScopes) (w front back : Word') (a : Head × OpenScopes) (b : Block × OpenScopes) → parts.head d s scopes front a → tokens_of w ≡ tokens_of front ++ tokens_of back →
+      block below d 0 scopes' back b → IsFunction d s scopes w
+  with_brace d s scopes scopes' w front [] a b h e x = never (((body_is_read {given = Prim.Unit {0}}).predictive d tt scopes').nullable b x)
+  with_brace d s scopes scopes' w front (z ∷ back) a b h e x = record {
     front = front;
     value = a;
-    brace = s.0;
+    brace = z.0;
     rest = tokens_of back;
     is = e;
     begin = h;
-    fits = fixed a_left_brace refl scopes scopes' s.0 ∙ ((body_is_read {given = Prim.Unit {0}}).predictive d tt scopes').begins s back b x;
+    fits = fixed a_left_brace refl scopes scopes' z.0 ∙ ((body_is_read {given = Prim.Unit {0}}).predictive d tt scopes').begins z back b x;
   }
 
-  function_of : (d : ℕ) (scopes : OpenScopes) (w : Word') (a : Item × OpenScopes) → lang.definition below head d scopes w a → IsFunction d scopes w
+  function_of : (d : ℕ) (s : Specified) (scopes : OpenScopes) (w : Word') (a : Item × OpenScopes) → lang.definition below parts d s scopes w a → IsFunction d s scopes w
   unfolding lang.definition lang.whole_function lang.named_head
-  function_of d scopes w a x =
+  function_of d s scopes w a x =
       let is : w ≡ x.begin.front ++ x.begin.back = all_front w x.front x.back x.split x.rest.none ∙ x.begin.split in
       let front : x.begin.front ≡ x.begin.begin.front = all_front x.begin.front x.begin.begin.front x.begin.begin.back x.begin.begin.split x.begin.begin.rest.none in
       let back : x.begin.back ≡ x.begin.rest.front = all_front x.begin.back x.begin.rest.front x.begin.rest.back x.begin.rest.split x.begin.rest.rest.none in
-      with_brace d scopes x.begin.value.1 w x.begin.begin.front x.begin.rest.front x.begin.begin.value x.begin.rest.value x.begin.begin.begin
+      with_brace d s scopes x.begin.value.1 w x.begin.begin.front x.begin.rest.front x.begin.begin.value x.begin.rest.value x.begin.begin.begin
       (ap tokens_of (is ∙ (ap (λ r. r ++ x.begin.back) front ∙ ap (λ r. x.begin.begin.front ++ r) back)) ∙ tokens_append x.begin.begin.front x.begin.rest.front) x.begin.rest.begin
 
-  record IsDeclaration (d : ℕ) (scopes : OpenScopes) (w : Word') : Type 0 where
+  record IsDeclaration (d : ℕ) (s : Specified) (scopes : OpenScopes) (w : Word') : Type 0 where
     value : Declaration × OpenScopes
-    is : below.declaration d 0 scopes w value
+    is : parts.names d s scopes w value
 
-  declaration_of : (d : ℕ) (scopes : OpenScopes) (w : Word') (a : Item × OpenScopes) → lang.declaration_item below head d scopes w a → IsDeclaration d scopes w
-  unfolding lang.declaration_item
-  declaration_of d scopes w a x =
-      record { value = x.value; is = subst (λ r. below.declaration d 0 scopes r x.value) (sym (all_front w x.front x.back x.split x.rest.none)) x.begin }
+  declaration_of : (d : ℕ) (s : Specified) (scopes : OpenScopes) (w : Word') (a : Item × OpenScopes) → lang.names_item below parts d s scopes w a → IsDeclaration d s scopes w
+  unfolding lang.names_item
+  declaration_of d s scopes w a x =
+      record { value = x.value; is = subst (λ r. parts.names d s scopes r x.value) (sym (all_front w x.front x.back x.split x.rest.none)) x.begin }
 
-  begins_head : (d : ℕ) (scopes : OpenScopes) (w : Word') (u : List KeptToken) (b : Declaration × OpenScopes) (f : Word') (a : Head × OpenScopes) (t : KeptToken) (r : List KeptToken) →
-      head d scopes f a → below.declaration d 0 scopes w b → has a_left_brace (terminal_of scopes t) ≡ true → Cut (tokens_of f) (t ∷ r) (tokens_of w) u → ⊥
-  begins_head d scopes w u b f a t r h x k (equal p q) = rh.not_beyond d scopes f w a b [] (p ∙ sym (append-nil (tokens_of w))) h x
-  begins_head d scopes w u b f a t r h x k (earlier s m p q) =
-      let same : t ≡ s = cc in rh.not_declaration d scopes f w a b t m h x k (p ∙ ap (λ z. tokens_of f ++ z ∷ m) (sym same))
-  begins_head d scopes w u b f a t r h x k (later s m p q) = rh.not_beyond d scopes f w a b (s ∷ m) p h x
+  head_begins : (d : ℕ) (s : Specified) (scopes : OpenScopes) (w : Word') (u : List KeptToken) (b : Declaration × OpenScopes) (f : Word') (a : Head × OpenScopes) (t : KeptToken) (r : List KeptToken) →
+      parts.head d s scopes f a → parts.names d s scopes w b → has a_left_brace (terminal_of scopes t) ≡ true → Cut (tokens_of f) (t ∷ r) (tokens_of w) u → ⊥
+  head_begins d s scopes w u b f a t r h x k (equal p q) = rp.not_beyond d s scopes f w a b [] (p ∙ sym (append-nil (tokens_of w))) h x
+  head_begins d s scopes w u b f a t r h x k (earlier z m p q) =
+      let same : t ≡ z = cc in rp.not_declaration d s scopes f w a b t m h x k (p ∙ ap (λ y. tokens_of f ++ y ∷ m) (sym same))
+  head_begins d s scopes w u b f a t r h x k (later z m p q) = rp.not_beyond d s scopes f w a b (z ∷ m) p h x
 
-  definition_first : (d : ℕ) (scopes : OpenScopes) → NoneBegins (lang.definition below head d scopes) (lang.declaration_item below head d scopes)
-  definition_first d scopes v w a b u e x y =
-      let f = function_of d scopes v a x in let g = declaration_of d scopes w b y in
-      begins_head d scopes w u g.value f.front f.value f.brace f.rest f.begin g.is f.fits (cut (tokens_of f.front) (f.brace ∷ f.rest) (tokens_of w) u (sym f.is ∙ e))
+  definition_first : (d : ℕ) (s : Specified) (scopes : OpenScopes) → NoneBegins (lang.definition below parts d s scopes) (lang.names_item below parts d s scopes)
+  definition_first d s scopes v w a b u e x y =
+      let f = function_of d s scopes v a x in let g = declaration_of d s scopes w b y in
+      head_begins d s scopes w u g.value f.front f.value f.brace f.rest f.begin g.is f.fits (cut (tokens_of f.front) (f.brace ∷ f.rest) (tokens_of w) u (sym f.is ∙ e))
 
-  declaration_first : (d : ℕ) (scopes : OpenScopes) → NoneBegins (lang.declaration_item below head d scopes) (lang.definition below head d scopes)
-  declaration_first d scopes v w a b u e y x =
-      let f = function_of d scopes w b x in let g = declaration_of d scopes v a y in
-      rh.not_declaration d scopes f.front v f.value g.value f.brace (f.rest ++ u) f.begin g.is f.fits
+  declaration_first : (d : ℕ) (s : Specified) (scopes : OpenScopes) → NoneBegins (lang.names_item below parts d s scopes) (lang.definition below parts d s scopes)
+  declaration_first d s scopes v w a b u e y x =
+      let f = function_of d s scopes w b x in let g = declaration_of d s scopes v a y in
+      rp.not_declaration d s scopes f.front v f.value g.value f.brace (f.rest ++ u) f.begin g.is f.fits
       (e ∙ (ap (λ r. r ++ u) f.is ∙ append_assoc (tokens_of f.front) (f.brace ∷ f.rest) u))
 
   -- ---- External declarations (6.9)
 
-  external_is_read : {given : Type 0} → IsRead tokens whole given (λ d. lang.external below head d) (read.external below_readers read_head room) no begins_declaration nothing
+  behind_at_is_read : {given : Type 0} (b : Bool) (s : Specified) →
+      IsRead tokens whole given (λ d. lang.behind_at below parts d b s) (read.behind_at below_readers parts.is_typedef readers room b s) no (rp.begins_names s) nothing
+  behind_at_is_read true s = names_item_is_read s
+  behind_at_is_read false s =
+      read_first (rp.begins_names s) (within_union (rp.begins_head s) (rp.begins_names s) (rp.begins_names s) (rp.within_names s) (within_itself (rp.begins_names s)))
+      (within_right (rp.begins_head s) (rp.begins_names s))
+      (read_later nothing (definition_is_read s) (names_item_is_read s) (λ d h scopes. definition_first d s scopes) (λ d h scopes. declaration_first d s scopes) (λ a. refl) (λ a. refl))
+
+  specified_item_is_read : {given : Type 0} →
+      IsRead tokens whole given (λ d. lang.specified_item below parts d) (read.specified_item below_readers parts.is_typedef readers room) no (a_typedef_name ++ a_specifier) nothing
+  unfolding lang.specified_item lang.behind_specifiers read.specified_item read.behind_specifiers
+  specified_item_is_read = read_then nothing (rp.specifiers whole _ fits) (λ s. behind_at_is_read (parts.is_typedef s) s) rp.apart (λ b. refl) (λ s b. refl)
+
+  assertion_item_is_read : {given : Type 0} →
+      IsRead tokens whole given (λ d. lang.assertion_item below parts d) (read.assertion_item below_readers parts.is_typedef readers room) no (key KEY_STATIC_ASSERT ∷ []) nothing
+  unfolding lang.assertion_item read.assertion_item
+  assertion_item_is_read = read_map item_.Declare nothing (rp.assertion whole _ fits) (λ d. refl)
+
+  external_is_read : {given : Type 0} →
+      IsRead tokens whole given (λ d. lang.external below parts d) (read.external below_readers parts.is_typedef readers room) no begins_declaration nothing
   unfolding lang.external read.external
-  external_is_read =
-      read_first begins_declaration (within_union rh.begins begins_declaration begins_declaration rh.within_declaration (within_itself begins_declaration))
-      (within_right rh.begins begins_declaration)
-      (read_later nothing definition_is_read declaration_item_is_read (λ d h scopes. definition_first d scopes) (λ d h scopes. declaration_first d scopes) (λ a. refl) (λ a. refl))
+  external_is_read = read_either assertion_item_is_read specified_item_is_read refl
 
   more_items_is_read : {given : Type 0} (items : List Item) →
-      IsRead tokens whole given (λ d. lang.more_items below head d items) (read.more_items below_readers read_head room items) no begins_declaration nothing
+      IsRead tokens whole given (λ d. lang.more_items below parts d items) (read.more_items below_readers parts.is_typedef readers room items) no begins_declaration nothing
   unfolding lang.more_items read.more_items
   more_items_is_read items = read_map (λ i. items ++ i ∷ []) nothing external_is_read (λ i. refl)
 
   all_items_is_read : {given : Type 0} →
-      IsRead tokens whole given (λ d. lang.all_items below head d) (read.all_items below_readers read_head room) keeping begins_declaration (λ items. begins_declaration)
+      IsRead tokens whole given (λ d. lang.all_items below parts d) (read.all_items below_readers parts.is_typedef readers room) keeping begins_declaration (λ items. begins_declaration)
   unfolding lang.all_items read.all_items
   all_items_is_read = read_many [] begins_declaration more_items_is_read refl refl refl []
 
   pub unit_is_read : {given : Type 0} →
-      IsRead tokens whole given (λ d. lang.unit below head d) (read.unit below_readers read_head room) keeping begins_declaration (λ all. begins_declaration)
+      IsRead tokens whole given (λ d. lang.unit below parts d) (read.unit below_readers parts.is_typedef readers room) keeping begins_declaration (λ all. begins_declaration)
   unfolding lang.unit read.unit
   unit_is_read = read_map (λ (items : List Item). record { items = items }) (λ (all : Unit). begins_declaration) all_items_is_read (λ items. refl)
 
@@ -204,7 +235,7 @@ module _ (tokens : Tokens) (below : Below) (below_readers : BelowReaders) (rb : 
 
   -- A file is read exactly.
   pub file_is_exact : (around : Around) (scopes : OpenScopes) (left : List KeptToken) →
-      IsExactFile tokens.IsToken around (λ d. lang.unit below head d scopes) left (read.file below_readers read_head room (record { tokens = left; scope = scopes; around = around }))
+      IsExactFile tokens.IsToken around (λ d. lang.unit below parts d scopes) left (read.file below_readers parts.is_typedef readers room (record { tokens = left; scope = scopes; around = around }))
   unfolding read.file
   file_is_exact around scopes left =
-      to_end around (λ d. lang.unit below head d scopes) left _ ((unit_is_read {given = Prim.Unit {0}}).exact tt tt around scopes left)
+      to_end around (λ d. lang.unit below parts d scopes) left _ ((unit_is_read {given = Prim.Unit {0}}).exact tt tt around scopes left)

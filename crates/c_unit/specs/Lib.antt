@@ -1,5 +1,5 @@
 pub mod Later
-pub mod Heads
+pub mod Parts
 pub mod UnitRules
 pub mod UnitReaders
 pub mod ExactFiles
