@@ -1,6 +1,6 @@
 -- Files are read exactly (C11 6.9), a term a rule.
 
-use Rattle.std.proofs.Common.{◌≡◌, ℕ, true, List, [], ◌∷◌, ◌++◌, refl, sym, ap, ◌∙◌, subst, append-nil, append_assoc}
+use Rattle.std.proofs.Common.{◌≡◌, ℕ, true, List, [], ◌∷◌, ◌++◌, refl, sym, ap, ◌∙◌, subst, append-nil, append_assoc, Bool, false}
 use Rattle.c_lexer.specs.declared.keyword.TheConstants.{KEY_STATIC_ASSERT}
 use Rattle.c_lexer.specs.declared.mark.TheConstants.{MARK_LEFT_BRACKET, MARK_LEFT_PAREN}
 use Rattle.c_tree.specs.declared.tree.Block.{Block}
