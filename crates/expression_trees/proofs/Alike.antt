@@ -47,16 +47,22 @@ abbrev pub any : {A : Type 0} → A → A → Type 0
 any a b = Prim.Unit {0}
 
 pub alike_pure : {A : Type 0} {R : A → A → Type 0} (a b : A) → R a b → Alike (pure a) (pure b) R
-alike_pure {R = R} a b r = record { alike = λ scopes v w h e x.
-    (b, record { none = none_same w (subst (λ (z : List (Leveled KeptToken)). Same z w) x.none h); same = ap (λ (z : OpenScopes). (b, z)) (ap (λ (z : _). z.1) x.same) },
-    subst (λ (z : _). R z b) (sym (ap (λ (z : _). z.0) x.same)) r) }
+alike_pure {R = R} a b r = record {
+  alike = λ scopes v w h e x. (
+    b,
+    record { none = none_same w (subst (λ (z : List (Leveled KeptToken)). Same z w) x.none h); same = ap (λ (z : OpenScopes). (b, z)) (ap (λ (z : _). z.1) x.same) },
+    subst (λ (z : _). R z b) (sym (ap (λ (z : _). z.0) x.same)) r,
+  );
+}
 
 pub alike_then : {A B : Type 0} {X Y : Part A} {f g : A → Part B} {R : A → A → Type 0} {S : B → B → Type 0} → Alike X Y R → ((a b : A) → R a b → Alike (f a) (g b) S) → Alike (X >>= f) (Y >>= g) S
-alike_then p q = record { alike = λ scopes v w h e x.
-    let r = halves x.front x.back w (subst (λ (z : List (Leveled KeptToken)). Same z w) x.split h) in
-    let y = p.alike scopes x.front r.front r.begin x.value x.begin in
-    let z = (q x.value.0 y.0 y.2).alike x.value.1 x.back r.back r.rest e x.rest in
-    (z.0, record { front = r.front; back = r.back; value = (y.0, x.value.1); split = r.split; begin = y.1; rest = z.1 }, z.2) }
+alike_then p q = record {
+  alike = λ scopes v w h e x.
+      let r = halves x.front x.back w (subst (λ (z : List (Leveled KeptToken)). Same z w) x.split h) in
+      let y = p.alike scopes x.front r.front r.begin x.value x.begin in
+      let z = (q x.value.0 y.0 y.2).alike x.value.1 x.back r.back r.rest e x.rest in
+      (z.0, record { front = r.front; back = r.back; value = (y.0, x.value.1); split = r.split; begin = y.1; rest = z.1 }, z.2);
+}
 
 one_or_other : {A : Type 0} {X Y U V : Part A} {R : A → A → Type 0} → Alike X Y R → Alike U V R → (scopes : OpenScopes) (v w : List (Leveled KeptToken)) → Same v w → (e : A × OpenScopes) →
     X scopes v e ⊎ U scopes v e → (b : A) × (Y scopes w (b, e.1) ⊎ V scopes w (b, e.1)) × R e.0 b
@@ -70,18 +76,23 @@ one_same : (set : List ℕ) (level : ℕ) (scopes : OpenScopes) (t : KeptToken) 
     e.1 ≡ scopes → (b : ℕ) × one_among set level scopes w (b, e.1) × Prim.Unit {0}
 unfolding terminal_in
 one_same set level scopes t e [] h g s = absurd h
-one_same set level scopes t e (u ∷ []) h g s =
-    (u.0.number, record {
-      token = u.0;
-      is = ap (λ (l : ℕ). (u.0, l) ∷ []) (sym h.1);
-      fits = subst (λ (x : Lexeme). has set (terminal_where (is_typedef_name scopes) x.kind x.spelling) ≡ true) h.0 g;
-      value = ap (λ (z : OpenScopes). (u.0.number, z)) s;
-    }, tt)
+one_same set level scopes t e (u ∷ []) h g s = (
+  u.0.number,
+  record {
+    token = u.0;
+    is = ap (λ (l : ℕ). (u.0, l) ∷ []) (sym h.1);
+    fits = subst (λ (x : Lexeme). has set (terminal_where (is_typedef_name scopes) x.kind x.spelling) ≡ true) h.0 g;
+    value = ap (λ (z : OpenScopes). (u.0.number, z)) s;
+  },
+  tt,
+)
 one_same set level scopes t e (u ∷ x ∷ w) h g s = absurd h.2
 
 pub alike_one : (set : List ℕ) (level : ℕ) → Alike (one_among set level) (one_among set level) any
-alike_one set level = record { alike = λ scopes v w h e x.
-    one_same set level scopes x.token e w (subst (λ (z : List (Leveled KeptToken)). Same z w) x.is h) x.fits (ap (λ (z : _). z.1) x.value) }
+alike_one set level = record {
+  alike = λ scopes v w h e x.
+      one_same set level scopes x.token e w (subst (λ (z : List (Leveled KeptToken)). Same z w) x.is h) x.fits (ap (λ (z : _). z.1) x.value);
+}
 
 pub alike_token : {B : Type 0} {f g : ℕ → Part B} {S : B → B → Type 0} {set : List ℕ} {level : ℕ} → ((m n : ℕ) → Alike (f m) (g n) S) → Alike (one_among set level >>= f) (one_among set level >>= g) S
 alike_token {set = set} {level = level} q = alike_then (alike_one set level) (λ m n r. q m n)

@@ -123,10 +123,10 @@ module _ (d level : ℕ) (rules : Inner) (si : InnerAlike rules) where
   same_suffix =
       alike_or (alike_token (λ l m. alike_then inside (λ e f h. alike_token (λ r s. alike_pure (post.Index e (l ∷ r ∷ [])) (post.Index f (m ∷ s ∷ [])) tt))))
       (alike_or (alike_token (λ l m. alike_or (alike_token (λ r s. alike_pure (post.Call [] (l ∷ r ∷ [])) (post.Call [] (m ∷ s ∷ [])) tt))
-          (alike_then (same_parts d (suc level) (rules.assign) si.assign (l ∷ []) (m ∷ [])) (λ p q h. alike_token (λ r s. alike_pure (call_of p r) (call_of q s) tt)))))
+      (alike_then (same_parts d (suc level) (rules.assign) si.assign (l ∷ []) (m ∷ [])) (λ p q h. alike_token (λ r s. alike_pure (call_of p r) (call_of q s) tt)))))
       (alike_or (alike_token (λ l m. alike_token (λ n o. alike_pure (post.Dot n (l ∷ [])) (post.Dot o (m ∷ [])) tt)))
       (alike_or (alike_token (λ l m. alike_token (λ n o. alike_pure (post.Arrow n (l ∷ [])) (post.Arrow o (m ∷ [])) tt)))
-          (alike_token (λ l m. alike_pure (post.Step l) (post.Step m) tt)))))
+      (alike_token (λ l m. alike_pure (post.Step l) (post.Step m) tt)))))
 
   same_suffixes : Alike (lang.all_suffixes d level rules) (lang.all_suffixes d level rules) any
   unfolding lang.all_suffixes lang.more_suffixes
@@ -146,7 +146,7 @@ module _ (d level : ℕ) (rules : Inner) (si : InnerAlike rules) where
   unfolding lang.with_compound lang.compound
   same_with_compound ps qs t u ms ns h =
       alike_then {R = any} (alike_token (λ b c. alike_then si.item (λ x y g. alike_then (same_items (one_item x (ms ++ b ∷ [])) (one_item y (ns ++ c ∷ []))) (λ p q i. alike_pure (compound_of t p) (compound_of u q) tt))))
-          (λ f g i. alike_pure (Done (Operand ps f)) (Done (Operand qs g)) h)
+      (λ f g i. alike_pure (Done (Operand ps f)) (Done (Operand qs g)) h)
 
   same_typed_at : (b c : Chain) (t u : TypeName) (ms ns : List ℕ) (m n : Mode) → Modes m n → Shapes b.prefixes c.prefixes → Alike (lang.typed_at d level rules b t ms m) (lang.typed_at d level rules c u ns n) Links
   same_typed_at b c t u ms ns Cast Cast g h = alike_or (same_with_compound b.prefixes c.prefixes t u ms ns h)
@@ -154,7 +154,7 @@ module _ (d level : ℕ) (rules : Inner) (si : InnerAlike rules) where
   same_typed_at b c t u ms ns Literal Literal g h = same_with_compound b.prefixes c.prefixes t u ms ns h
   same_typed_at b c t u ms ns (Size m) (Size n) g h =
       alike_or (same_with_compound (b.prefixes ++ prefix.Op m ∷ []) (c.prefixes ++ prefix.Op n ∷ []) t u ms ns (shapes_snoc b.prefixes c.prefixes (prefix.Op m) (prefix.Op n) h (ops m n)))
-          (alike_pure (Done (Sized b.prefixes (form.SizeType m t ms))) (Done (Sized c.prefixes (form.SizeType n u ns))) h)
+      (alike_pure (Done (Sized b.prefixes (form.SizeType m t ms))) (Done (Sized c.prefixes (form.SizeType n u ns))) h)
   same_typed_at b c t u ms ns Cast Literal g h = absurd g
   same_typed_at b c t u ms ns Cast (Size n) g h = absurd g
   same_typed_at b c t u ms ns Literal Cast g h = absurd g

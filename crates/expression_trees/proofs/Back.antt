@@ -31,14 +31,16 @@ module _ (kind_of : ℕ → Option Kind) (bytes_of : ℕ → List ℕ) where
     pub reads : (k : Said) (ts : List KeptToken) (scopes end : OpenScopes) → AreSaid kind_of bytes_of (before k) ts scopes end → Cut X a k ts scopes end
 
   pub back_pure : {A : Type 0} (a : A) → Back (λ d. pure a) a (λ k. k)
-  back_pure a = record { reads = λ k ts scopes end f. record {
-    front = [];
-    back = ts;
-    middle = scopes;
-    split = refl;
-    begin = record { word = []; turns = 0; is = refl; holds = λ e h. record { none = refl; same = refl } };
-    rest = f;
-  } }
+  back_pure a = record {
+    reads = λ k ts scopes end f. record {
+      front = [];
+      back = ts;
+      middle = scopes;
+      split = refl;
+      begin = record { word = []; turns = 0; is = refl; holds = λ e h. record { none = refl; same = refl } };
+      rest = f;
+    };
+  }
 
   joined_words : {A B : Type 0} {X : ℕ → Part A} {g : ℕ → A × OpenScopes → Language KeptToken (B × OpenScopes)} {a : A} {b : B} (u v : List KeptToken) (scopes middle end : OpenScopes) →
       IsWord X a u scopes middle → IsWord (λ d scope. g d (a, scope)) b v middle end → IsWord (λ d scope. sequence (X d scope) (g d)) b (u ++ v) scopes end
@@ -51,16 +53,18 @@ module _ (kind_of : ℕ → Option Kind) (bytes_of : ℕ → List ℕ) where
 
   pub back_then : {A B : Type 0} {X : ℕ → Part A} {g : ℕ → A × OpenScopes → Language KeptToken (B × OpenScopes)} {a : A} {b : B} {before behind : Open} → Back X a before →
       Back (λ d scope. g d (a, scope)) b behind → Back (λ d scope. sequence (X d scope) (g d)) b (λ k. before (behind k))
-  back_then {behind = behind} p q = record { reads = λ k ts scopes end h.
-      let x = p.reads (behind k) ts scopes end h in
-      let y = q.reads k x.back x.middle end x.rest in record {
-        front = x.front ++ y.front;
-        back = y.back;
-        middle = y.middle;
-        split = x.split ∙ (ap (λ (z : List KeptToken). x.front ++ z) y.split ∙ sym (append_assoc x.front y.front y.back));
-        begin = joined_words x.front y.front scopes x.middle y.middle x.begin y.begin;
-        rest = y.rest;
-      } }
+  back_then {behind = behind} p q = record {
+    reads = λ k ts scopes end h.
+        let x = p.reads (behind k) ts scopes end h in
+        let y = q.reads k x.back x.middle end x.rest in record {
+          front = x.front ++ y.front;
+          back = y.back;
+          middle = y.middle;
+          split = x.split ∙ (ap (λ (z : List KeptToken). x.front ++ z) y.split ∙ sym (append_assoc x.front y.front y.back));
+          begin = joined_words x.front y.front scopes x.middle y.middle x.begin y.begin;
+          rest = y.rest;
+        };
+  }
 
   -- ---- Tokens
 
@@ -80,15 +84,17 @@ module _ (kind_of : ℕ → Option Kind) (bytes_of : ℕ → List ℕ) where
   }
 
   one_back : {set : List ℕ} {level number : ℕ} {put : Open} → Hears set number put → Back (λ d. one_among set level) number put
-  one_back {set = set} {level = level} {number = number} s = record { reads = λ k ts scopes end f.
-      let x = s.hears scopes end k ts f in record {
-        front = x.0 ∷ [];
-        back = x.1;
-        middle = scopes;
-        split = x.2;
-        begin = one_word set level number scopes x.0 x.3 x.4;
-        rest = x.5;
-      } }
+  one_back {set = set} {level = level} {number = number} s = record {
+    reads = λ k ts scopes end f.
+        let x = s.hears scopes end k ts f in record {
+          front = x.0 ∷ [];
+          back = x.1;
+          middle = scopes;
+          split = x.2;
+          begin = one_word set level number scopes x.0 x.3 x.4;
+          rest = x.5;
+        };
+  }
 
   pub back_token : {B : Type 0} {g : ℕ → ℕ × OpenScopes → Language KeptToken (B × OpenScopes)} {b : B} {set : List ℕ} {level number : ℕ} {put behind : Open} → Hears set number put →
       Back (λ d scope. g d (number, scope)) b behind → Back (λ d scope. sequence (one_among set level scope) (g d)) b (λ k. put (behind k))
@@ -97,16 +103,28 @@ module _ (kind_of : ℕ → Option Kind) (bytes_of : ℕ → List ℕ) where
   -- ---- One or the other, and the same in other words
 
   pub back_left : {A : Type 0} {X Y : ℕ → Part A} {a : A} {before : Open} → Back X a before → Back (λ d. X d or Y d) a before
-  back_left p = record { reads = λ k ts scopes end f. let x = p.reads k ts scopes end f in record {
-    front = x.front; back = x.back; middle = x.middle; split = x.split; rest = x.rest;
-    begin = record { word = x.begin.word; turns = x.begin.turns; is = x.begin.is; holds = λ e h. inl (x.begin.holds e h) };
-  } }
+  back_left p = record {
+    reads = λ k ts scopes end f. let x = p.reads k ts scopes end f in record {
+      front = x.front;
+      back = x.back;
+      middle = x.middle;
+      split = x.split;
+      rest = x.rest;
+      begin = record { word = x.begin.word; turns = x.begin.turns; is = x.begin.is; holds = λ e h. inl (x.begin.holds e h) };
+    };
+  }
 
   pub back_right : {A : Type 0} {X Y : ℕ → Part A} {a : A} {before : Open} → Back Y a before → Back (λ d. X d or Y d) a before
-  back_right p = record { reads = λ k ts scopes end f. let x = p.reads k ts scopes end f in record {
-    front = x.front; back = x.back; middle = x.middle; split = x.split; rest = x.rest;
-    begin = record { word = x.begin.word; turns = x.begin.turns; is = x.begin.is; holds = λ e h. inr (x.begin.holds e h) };
-  } }
+  back_right p = record {
+    reads = λ k ts scopes end f. let x = p.reads k ts scopes end f in record {
+      front = x.front;
+      back = x.back;
+      middle = x.middle;
+      split = x.split;
+      rest = x.rest;
+      begin = record { word = x.begin.word; turns = x.begin.turns; is = x.begin.is; holds = λ e h. inr (x.begin.holds e h) };
+    };
+  }
 
   pub back_same : {A : Type 0} {X : ℕ → Part A} {a b : A} {before before' : Open} → a ≡ b → ((k : Said) → before' k ≡ before k) → Back X a before → Back X b before'
   back_same {X = X} {before' = before'} e d p = subst (λ (c : _). Back X c before') e
@@ -124,13 +142,21 @@ module _ (kind_of : ℕ → Option Kind) (bytes_of : ℕ → List ℕ) where
   -- One turn more.
   pub back_later : {A : Type 0} (X Y : ℕ → Part A) {a : A} {before : Open} → ((d : ℕ) (scopes : OpenScopes) (w : List (Leveled KeptToken)) (end : A × OpenScopes) → X d scopes w end → Y (suc d) scopes w end) →
       Back X a before → Back Y a before
-  back_later X Y {a = a} up p = record { reads = λ k ts scopes end f. let x = p.reads k ts scopes end f in record {
-    front = x.front; back = x.back; middle = x.middle; split = x.split; rest = x.rest;
-    begin = record {
-      word = x.begin.word; turns = suc x.begin.turns; is = x.begin.is;
-      holds = rises X Y a scopes x.middle x.begin.word x.begin.turns (λ e. up e scopes x.begin.word (a, x.middle)) x.begin.holds;
+  back_later X Y {a = a} up p = record {
+    reads = λ k ts scopes end f. let x = p.reads k ts scopes end f in record {
+      front = x.front;
+      back = x.back;
+      middle = x.middle;
+      split = x.split;
+      rest = x.rest;
+      begin = record {
+        word = x.begin.word;
+        turns = suc x.begin.turns;
+        is = x.begin.is;
+        holds = rises X Y a scopes x.middle x.begin.word x.begin.turns (λ e. up e scopes x.begin.word (a, x.middle)) x.begin.holds;
+      };
     };
-  } }
+  }
 
   -- ---- Loops
 
@@ -153,10 +179,16 @@ module _ (kind_of : ℕ → Option Kind) (bytes_of : ℕ → List ℕ) where
     pub spins : (k : Said) (ts : List KeptToken) (scopes end : OpenScopes) → AreSaid kind_of bytes_of (before k) ts scopes end → Spun X a k ts scopes end
 
   pub back_loop : {A : Type 0} {X : ℕ → ℕ → Part A} {a : A} {before : Open} → Spins X a before → Back (λ d. X d d) a before
-  back_loop p = record { reads = λ k ts scopes end f. let x = p.spins k ts scopes end f in record {
-    front = x.front; back = x.back; middle = x.middle; split = x.split; rest = x.rest;
-    begin = record { word = x.begin.word; turns = x.begin.turns; is = x.begin.is; holds = λ e h. x.begin.holds e e h h };
-  } }
+  back_loop p = record {
+    reads = λ k ts scopes end f. let x = p.spins k ts scopes end f in record {
+      front = x.front;
+      back = x.back;
+      middle = x.middle;
+      split = x.split;
+      rest = x.rest;
+      begin = record { word = x.begin.word; turns = x.begin.turns; is = x.begin.is; holds = λ e h. x.begin.holds e e h h };
+    };
+  }
 
   pub spins_same : {A : Type 0} {X : ℕ → ℕ → Part A} {a b : A} {before before' : Open} → a ≡ b → ((k : Said) → before' k ≡ before k) → Spins X a before → Spins X b before'
   spins_same {X = X} {before' = before'} e d p = subst (λ (c : _). Spins X c before') e
@@ -171,10 +203,16 @@ module _ (kind_of : ℕ → Option Kind) (bytes_of : ℕ → List ℕ) where
   stops step s scopes (suc m) = inr (record { none = refl; same = refl })
 
   pub many_stop : {S : Type 0} (step : ℕ → S → Part S) (s : S) → Spins (λ m e. many m (step e) s) s (λ k. k)
-  many_stop step s = record { spins = λ k ts scopes end f. record {
-    front = []; back = ts; middle = scopes; split = refl; rest = f;
-    begin = record { word = []; turns = 0; is = refl; holds = λ m e b c. stops (step e) s scopes m };
-  } }
+  many_stop step s = record {
+    spins = λ k ts scopes end f. record {
+      front = [];
+      back = ts;
+      middle = scopes;
+      split = refl;
+      rest = f;
+      begin = record { word = []; turns = 0; is = refl; holds = λ m e b c. stops (step e) s scopes m };
+    };
+  }
 
   goes : {S : Type 0} (step : ℕ → S → Part S) (s r a : S) (scopes middle end : OpenScopes) (v w : List (Leveled KeptToken)) (c d : ℕ) →
       ((e : ℕ) → c ≤ e → step e s scopes v (r, middle)) → ((m e : ℕ) → d ≤ m → d ≤ e → many m (step e) r middle w (a, end)) →
@@ -186,18 +224,23 @@ module _ (kind_of : ℕ → Option Kind) (bytes_of : ℕ → List ℕ) where
 
   pub many_step : {S : Type 0} (step : ℕ → S → Part S) {s r a : S} {before behind : Open} → Back (λ d. step d s) r before → Spins (λ m e. many m (step e) r) a behind →
       Spins (λ m e. many m (step e) s) a (λ k. before (behind k))
-  many_step step {s = s} {r = r} {a = a} {behind = behind} p q = record { spins = λ k ts scopes end f.
-      let x = p.reads (behind k) ts scopes end f in
-      let y = q.spins k x.back x.middle end x.rest in record {
-        front = x.front ++ y.front; back = y.back; middle = y.middle; rest = y.rest;
-        split = x.split ∙ (ap (λ (z : List KeptToken). x.front ++ z) y.split ∙ sym (append_assoc x.front y.front y.back));
-        begin = record {
-          word = x.begin.word ++ y.begin.word;
-          turns = suc (x.begin.turns + y.begin.turns);
-          is = tokens_append x.begin.word y.begin.word ∙ (ap (λ (z : List KeptToken). z ++ tokens_of y.begin.word) x.begin.is ∙ ap (λ (z : List KeptToken). x.front ++ z) y.begin.is);
-          holds = λ m e b c. goes step s r a scopes x.middle y.middle x.begin.word y.begin.word x.begin.turns y.begin.turns x.begin.holds y.begin.holds m e b (omega arith);
+  many_step step {s = s} {r = r} {a = a} {behind = behind} p q = record {
+    spins = λ k ts scopes end f.
+        let x = p.reads (behind k) ts scopes end f in
+        let y = q.spins k x.back x.middle end x.rest in record {
+          front = x.front ++ y.front;
+          back = y.back;
+          middle = y.middle;
+          rest = y.rest;
+          split = x.split ∙ (ap (λ (z : List KeptToken). x.front ++ z) y.split ∙ sym (append_assoc x.front y.front y.back));
+          begin = record {
+            word = x.begin.word ++ y.begin.word;
+            turns = suc (x.begin.turns + y.begin.turns);
+            is = tokens_append x.begin.word y.begin.word ∙ (ap (λ (z : List KeptToken). z ++ tokens_of y.begin.word) x.begin.is ∙ ap (λ (z : List KeptToken). x.front ++ z) y.begin.is);
+            holds = λ m e b c. goes step s r a scopes x.middle y.middle x.begin.word y.begin.word x.begin.turns y.begin.turns x.begin.holds y.begin.holds m e b (omega arith);
+          };
         };
-      } }
+  }
 
   again : {S A : Type 0} (turn : ℕ → S → Part (Turn S A)) (s r : S) (a : A) (scopes middle end : OpenScopes) (v w : List (Leveled KeptToken)) (c d : ℕ) →
       ((e : ℕ) → c ≤ e → turn e s scopes v (Again r, middle)) → ((m e : ℕ) → d ≤ m → d ≤ e → repeat m (turn e) r middle w (a, end)) →
@@ -209,18 +252,23 @@ module _ (kind_of : ℕ → Option Kind) (bytes_of : ℕ → List ℕ) where
 
   pub repeat_again : {S A : Type 0} (turn : ℕ → S → Part (Turn S A)) {s r : S} {a : A} {before behind : Open} → Back (λ d. turn d s) (Again r) before →
       Spins (λ m e. repeat m (turn e) r) a behind → Spins (λ m e. repeat m (turn e) s) a (λ k. before (behind k))
-  repeat_again turn {s = s} {r = r} {a = a} {behind = behind} p q = record { spins = λ k ts scopes end f.
-      let x = p.reads (behind k) ts scopes end f in
-      let y = q.spins k x.back x.middle end x.rest in record {
-        front = x.front ++ y.front; back = y.back; middle = y.middle; rest = y.rest;
-        split = x.split ∙ (ap (λ (z : List KeptToken). x.front ++ z) y.split ∙ sym (append_assoc x.front y.front y.back));
-        begin = record {
-          word = x.begin.word ++ y.begin.word;
-          turns = suc (x.begin.turns + y.begin.turns);
-          is = tokens_append x.begin.word y.begin.word ∙ (ap (λ (z : List KeptToken). z ++ tokens_of y.begin.word) x.begin.is ∙ ap (λ (z : List KeptToken). x.front ++ z) y.begin.is);
-          holds = λ m e b c. again turn s r a scopes x.middle y.middle x.begin.word y.begin.word x.begin.turns y.begin.turns x.begin.holds y.begin.holds m e b (omega arith);
+  repeat_again turn {s = s} {r = r} {a = a} {behind = behind} p q = record {
+    spins = λ k ts scopes end f.
+        let x = p.reads (behind k) ts scopes end f in
+        let y = q.spins k x.back x.middle end x.rest in record {
+          front = x.front ++ y.front;
+          back = y.back;
+          middle = y.middle;
+          rest = y.rest;
+          split = x.split ∙ (ap (λ (z : List KeptToken). x.front ++ z) y.split ∙ sym (append_assoc x.front y.front y.back));
+          begin = record {
+            word = x.begin.word ++ y.begin.word;
+            turns = suc (x.begin.turns + y.begin.turns);
+            is = tokens_append x.begin.word y.begin.word ∙ (ap (λ (z : List KeptToken). z ++ tokens_of y.begin.word) x.begin.is ∙ ap (λ (z : List KeptToken). x.front ++ z) y.begin.is);
+            holds = λ m e b c. again turn s r a scopes x.middle y.middle x.begin.word y.begin.word x.begin.turns y.begin.turns x.begin.holds y.begin.holds m e b (omega arith);
+          };
         };
-      } }
+  }
 
   done : {S A : Type 0} (turn : ℕ → S → Part (Turn S A)) (s : S) (a : A) (scopes end : OpenScopes) (w : List (Leveled KeptToken)) (d : ℕ) →
       ((e : ℕ) → d ≤ e → turn e s scopes w (Done a, end)) → (m e : ℕ) → suc d ≤ m → d ≤ e → repeat m (turn e) s scopes w (a, end)
@@ -230,10 +278,18 @@ module _ (kind_of : ℕ → Option Kind) (bytes_of : ℕ → List ℕ) where
       record { front = w; back = []; value = (Done a, end); split = sym (append-nil w); begin = p e g; rest = record { none = refl; same = refl } }
 
   pub repeat_done : {S A : Type 0} (turn : ℕ → S → Part (Turn S A)) {s : S} {a : A} {before : Open} → Back (λ d. turn d s) (Done a) before → Spins (λ m e. repeat m (turn e) s) a before
-  repeat_done turn {s = s} {a = a} p = record { spins = λ k ts scopes end f. let x = p.reads k ts scopes end f in record {
-    front = x.front; back = x.back; middle = x.middle; split = x.split; rest = x.rest;
-    begin = record {
-      word = x.begin.word; turns = suc x.begin.turns; is = x.begin.is;
-      holds = λ m e b c. done turn s a scopes x.middle x.begin.word x.begin.turns x.begin.holds m e b (omega arith);
+  repeat_done turn {s = s} {a = a} p = record {
+    spins = λ k ts scopes end f. let x = p.reads k ts scopes end f in record {
+      front = x.front;
+      back = x.back;
+      middle = x.middle;
+      split = x.split;
+      rest = x.rest;
+      begin = record {
+        word = x.begin.word;
+        turns = suc x.begin.turns;
+        is = x.begin.is;
+        holds = λ m e b c. done turn s a scopes x.middle x.begin.word x.begin.turns x.begin.holds m e b (omega arith);
+      };
     };
-  } }
+  }

@@ -158,7 +158,7 @@ module _ (kind_of : ℕ → Option Kind) (bytes_of : ℕ → List ℕ) where
       unfolding lang.suffix lang.call lang.no_arguments
       call_none_back l r = back_right kind_of bytes_of (back_left kind_of bytes_of (back_same kind_of bytes_of refl (law.call_none_before kind_of bytes_of l r)
           (back_token kind_of bytes_of (hears_mark kind_of bytes_of MARK_LEFT_PAREN l) (back_left kind_of bytes_of
-          (back_token kind_of bytes_of (hears_mark kind_of bytes_of MARK_RIGHT_PAREN r) (back_pure kind_of bytes_of (post.Call [] (l ∷ r ∷ [])))))))) 
+          (back_token kind_of bytes_of (hears_mark kind_of bytes_of MARK_RIGHT_PAREN r) (back_pure kind_of bytes_of (post.Call [] (l ∷ r ∷ []))))))))
 
       call_some_back : (a : Assign) (ps : List (ℕ × Assign)) (l r : ℕ) → inner.IsAssign a → Every inner.IsAssign (values ps) → Suffixes (post.Call (a ∷ values ps) (l ∷ (commas ps ++ r ∷ [])))
       unfolding lang.suffix lang.call lang.some_arguments
@@ -442,10 +442,12 @@ module _ (kind_of : ℕ → Option Kind) (bytes_of : ℕ → List ℕ) where
           where
             Goal : Type 0
             Goal = Links c (f (flushed c.mode c.prefixes ++ prefix.Op n ∷ ps)) (λ k. token n (want.Among slot.PrefixOp) (each (of_prefix kind_of bytes_of) ps (last k)))
+
             later : (MARK_MINUS_MINUS ≡ m) ⊎ Contains unary_operators m → Links c (f (flushed c.mode c.prefixes ++ prefix.Op n ∷ ps)) (λ k. token n (want.Among slot.PrefixOp) (each (of_prefix kind_of bytes_of) ps (last k)))
             later (inl s) = step_next c n ps kind q l e m g (inr s) (subst (Contains steps) s (contains_later MARK_PLUS_PLUS MARK_MINUS_MINUS (MARK_MINUS_MINUS ∷ []) (contains_here MARK_MINUS_MINUS [])))
             later (inr u) = spins_same kind_of bytes_of (ap f (append_assoc (flushed c.mode c.prefixes) (prefix.Op n ∷ []) ps)) (λ k. refl)
                 (repeat_again kind_of bytes_of (λ d. lang.link d level (rules d)) (operator_back c n kind e (m, u, g)) (q (with_op c n Cast) tt))
+
             of : (MARK_PLUS_PLUS ≡ m) ⊎ Contains (MARK_MINUS_MINUS ∷ unary_operators) m → Links c (f (flushed c.mode c.prefixes ++ prefix.Op n ∷ ps)) (λ k. token n (want.Among slot.PrefixOp) (each (of_prefix kind_of bytes_of) ps (last k)))
             of (inl s) = step_next c n ps kind q l e m g (inl s) (subst (Contains steps) s (contains_here MARK_PLUS_PLUS (MARK_MINUS_MINUS ∷ [])))
             of (inr u) = later (contains_cases MARK_MINUS_MINUS m unary_operators u)

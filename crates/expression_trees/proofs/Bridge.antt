@@ -59,9 +59,10 @@ module _ (all : List Lexeme) (begin : ℕ) where
   known_numbered number lexemes [] h e = tt
   known_numbered number [] (s ∷ word) h e = absurd (let f : s.0 ∷ tokens_of word ≡ [] = e in cc)
   known_numbered number (x ∷ lexemes) (s ∷ word) h e =
-      let f : s.0 ∷ tokens_of word ≡ record { number = number; lexeme = x } ∷ numbered (number + 1) lexemes = e in
-      (subst (IsKnown kind_of bytes_of) (let g : record { number = number; lexeme = x } ≡ s.0 = cc in g) (from_known number x lexemes h),
-      known_numbered (number + 1) lexemes word (from_next number x lexemes h) (cc))
+      let f : s.0 ∷ tokens_of word ≡ record { number = number; lexeme = x } ∷ numbered (number + 1) lexemes = e in (
+        subst (IsKnown kind_of bytes_of) (let g : record { number = number; lexeme = x } ≡ s.0 = cc in g) (from_known number x lexemes h),
+        known_numbered (number + 1) lexemes word (from_next number x lexemes h) (cc),
+      )
 
 from_start : (begin : ℕ) (lexemes : List Lexeme) → From lexemes begin begin lexemes
 from_start begin lexemes i = ap (slice_get lexemes) (let e : (begin + i) - begin ≡ i = omega arith in e)
@@ -107,13 +108,15 @@ module _ {Tree : Type 0} (rule : ℕ → Part Tree) (grammar : Grammar Tree) whe
         rule turns scopes word (tree, end) → IsTreeOf grammar scopes begin lexemes tree × (end ≡ scopes_behind grammar scopes begin lexemes tree)
     words_are_trees scopes end begin turns lexemes word tree e x =
         let r = front (kind_of lexemes begin) (bytes_of lexemes begin) turns scopes end word tree (known_numbered lexemes begin begin lexemes word (from_start begin lexemes) e) x in
-        let events = grammar.events (kind_of lexemes begin) (bytes_of lexemes begin) tree in
-        (record {
-          spelled = numbered_fit lexemes begin begin (grammar.spelling tree) lexemes (subst (FitTokens (kind_of lexemes begin) (bytes_of lexemes begin) (grammar.spelling tree)) e r.1.0);
-          depth = turns;
-          form = r.0;
-          names = are_right scopes end events r.1.1;
-        }, met_end scopes end events r.1.1)
+        let events = grammar.events (kind_of lexemes begin) (bytes_of lexemes begin) tree in (
+          record {
+            spelled = numbered_fit lexemes begin begin (grammar.spelling tree) lexemes (subst (FitTokens (kind_of lexemes begin) (bytes_of lexemes begin) (grammar.spelling tree)) e r.1.0);
+            depth = turns;
+            form = r.0;
+            names = are_right scopes end events r.1.1;
+          },
+          met_end scopes end events r.1.1,
+        )
 
     begins_tree : ((turns : ℕ) → Alike (rule turns) (rule turns) any) → (scopes : OpenScopes) (begin turns : ℕ) (lexemes : List Lexeme) (run more : List (Leveled KeptToken)) (end : Tree × OpenScopes) →
         tokens_of run ≡ numbered begin lexemes → AreLexemes IsToken more → rule turns scopes (run ++ more) end → IsViable grammar scopes begin lexemes
@@ -121,7 +124,7 @@ module _ {Tree : Type 0} (rule : ℕ → Part Tree) (grammar : Grammar Tree) whe
         let r = renumbered (begin + length lexemes) more in
         let y = (alike turns).alike scopes (run ++ more) (run ++ r.0) (same_then run run more r.0 (same_itself run) r.1) end x in
         let is : tokens_of (run ++ r.0) ≡ numbered begin (lexemes ++ lexemes_in more) =
-            tokens_append run r.0 ∙ (ap (λ (z : List KeptToken). z ++ tokens_of r.0) e ∙ (ap (λ (z : List KeptToken). numbered begin lexemes ++ z) r.2 ∙ sym (numbered_append begin lexemes (lexemes_in more)))) in
+        tokens_append run r.0 ∙ (ap (λ (z : List KeptToken). z ++ tokens_of r.0) e ∙ (ap (λ (z : List KeptToken). numbered begin lexemes ++ z) r.2 ∙ sym (numbered_append begin lexemes (lexemes_in more)))) in
         record { more = lexemes_in more; each = all_of IsLexeme (lexemes_in more) (every_lexeme more l); whole = (y.0, (words_are_trees scopes end.1 begin turns (lexemes ++ lexemes_in more) (run ++ r.0) y.0 is y.1).0) }
 
   trees_are_words : ((kind_of : ℕ → Option Kind) (bytes_of : ℕ → List ℕ) (depth : ℕ) → AreWords kind_of bytes_of rule (grammar.IsFormed kind_of bytes_of depth) (said_by kind_of bytes_of)) →

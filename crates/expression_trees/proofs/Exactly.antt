@@ -61,7 +61,8 @@ split_at begin (x ∷ lexemes) (t ∷ u) v e =
     let f : record { number = begin; lexeme = x } ∷ numbered (begin + 1) lexemes ≡ t ∷ (u ++ v) = e in
     let r = split_at (begin + 1) lexemes u v (cc) in
     record {
-      front = x ∷ r.front; back = r.back;
+      front = x ∷ r.front;
+      back = r.back;
       whole = ap (λ (z : List Lexeme). x ∷ z) r.whole;
       first = ap (λ (z : KeptToken). z ∷ u) (let g : t ≡ record { number = begin; lexeme = x } = cc in g) ∙ ap (λ (z : List KeptToken). record { number = begin; lexeme = x } ∷ z) r.first;
       rest = r.rest ∙ ap (λ n. numbered n r.back) (let g : (begin + 1) + length r.front ≡ begin + suc (length r.front) = omega arith in g);
@@ -103,7 +104,7 @@ module _ {Tree : Type 0} (rule : ℕ → Part Tree) (grammar : Grammar Tree) (it
       let token : KeptToken = record { number = begin + length front; lexeme = x } in
       let after = numbered ((begin + length front) + 1) w.more in
       let same : numbered begin ((front ++ x ∷ []) ++ w.more) ≡ tokens_of run ++ token ∷ after =
-          ap (numbered begin) (append_assoc front (x ∷ []) w.more) ∙ (numbered_append begin front (x ∷ w.more) ∙ ap (λ (z : List KeptToken). z ++ token ∷ after) (sym e)) in
+      ap (numbered begin) (append_assoc front (x ∷ []) w.more) ∙ (numbered_append begin front (x ∷ w.more) ∙ ap (λ (z : List KeptToken). z ++ token ∷ after) (sym e)) in
       h token (numbered ((begin + length front) + 1) back) after refl is.turns is.word (w.whole.0, scopes_behind grammar scopes begin ((front ++ x ∷ []) ++ w.more) w.whole.0) (is.is ∙ same) (is.holds is.turns (omega arith))
 
   longest_by : (run : List (Leveled KeptToken)) (left : List KeptToken) (lexemes : List Lexeme) (s : Split begin (tokens_of run) left lexemes) → IsViable grammar scopes begin s.front →
@@ -129,17 +130,17 @@ module _ {Tree : Type 0} (rule : ℕ → Part Tree) (grammar : Grammar Tree) (it
         let walk = leveled turns scopes (run ++ (token, level) ∷ more) end h in
         let so_far : take (length front + 1) lexemes ≡ front ++ x ∷ [] = ap (take (length front + 1)) e ∙ take_next front x back in
         let tokens : tokens_of (run ++ (token, level) ∷ []) ≡ numbered begin (front ++ x ∷ []) =
-            tokens_append run ((token, level) ∷ []) ∙ (ap (λ (z : List KeptToken). z ++ token ∷ []) first ∙ (ap (λ (z : KeptToken). numbered begin front ++ z ∷ []) is ∙ sym (numbered_append begin front (x ∷ [])))) in
+        tokens_append run ((token, level) ∷ []) ∙ (ap (λ (z : List KeptToken). z ++ token ∷ []) first ∙ (ap (λ (z : KeptToken). numbered begin front ++ z ∷ []) is ∙ sym (numbered_append begin front (x ∷ [])))) in
         let v = its.begins scopes begin turns (front ++ x ∷ []) (run ++ (token, level) ∷ []) more end tokens lexs
-            (subst (λ z. rule turns scopes z end) (sym (append_assoc run ((token, level) ∷ []) more)) h) in
+        (subst (λ z. rule turns scopes z end) (sym (append_assoc run ((token, level) ∷ []) more)) h) in
         let in_run = same_lexemes begin run front first in
         let there : level ≡ level_in base nothing_open (front ++ x ∷ []) (length front) =
-            level_there base nothing_open nothing_open run more (token, level) walk ∙
-            (ap (λ (z : KeptToken). level_at base (after_tokens nothing_open (lexemes_in run)) z.lexeme.kind) is ∙
-            (ap (λ (z : List Lexeme). level_at base (after_tokens nothing_open z) x.kind) (in_run ∙ sym (take_front front (x ∷ []))) ∙
-            ap (λ (z : Option Kind). base + (nesting_level (after_tokens nothing_open (take (length front) (front ++ x ∷ []))) + opens_at z)) (sym (ap (option_map (λ (y : Lexeme). y.kind)) (get_next front x []))))) in
+        level_there base nothing_open nothing_open run more (token, level) walk ∙
+        (ap (λ (z : KeptToken). level_at base (after_tokens nothing_open (lexemes_in run)) z.lexeme.kind) is ∙
+        (ap (λ (z : List Lexeme). level_at base (after_tokens nothing_open z) x.kind) (in_run ∙ sym (take_front front (x ∷ []))) ∙
+        ap (λ (z : Option Kind). base + (nesting_level (after_tokens nothing_open (take (length front) (front ++ x ∷ []))) + opens_at z)) (sym (ap (option_map (λ (y : Lexeme). y.kind)) (get_next front x []))))) in
         let now : level_of [] base begin (take (length front + 1) lexemes) (length front) ≡ level =
-            ap (λ (z : List Lexeme). level_of [] base begin z (length front)) so_far ∙ (plain (front ++ x ∷ []) (length front) ∙ sym there) in
+        ap (λ (z : List Lexeme). level_of [] base begin z (length front)) so_far ∙ (plain (front ++ x ∷ []) (length front) ∙ sym there) in
         record {
           within = subst (λ (z : List Lexeme). length front < length z) (sym e) (omega (arith, length_both front (x ∷ back)));
           more = v.more;
@@ -170,7 +171,7 @@ module _ {Tree : Type 0} (rule : ℕ → Part Tree) (grammar : Grammar Tree) (it
         let so_far = taken lexemes s.front s.back s.whole in
         subst (λ (z : List KeptToken). IsReadExactly grammar scopes around base begin lexemes (Ok (tree, record { tokens = z; scope = scope; around = around }))) (left_is lexemes s.front s.back left s.whole s.rest)
         (subst (λ (z : OpenScopes). IsReadExactly grammar scopes around base begin lexemes (Ok (tree, record { tokens = numbered (begin + length s.front) (drop (length s.front) lexemes); scope = z; around = around })))
-            (ap (λ (z : List Lexeme). scopes_behind grammar scopes begin z tree) so_far ∙ sym is.1)
+        (ap (λ (z : List Lexeme). scopes_behind grammar scopes begin z tree) so_far ∙ sym is.1)
         (goal.reads (length s.front) tree (record {
           longest = longest_by run left lexemes s viable longest;
           whole = subst (λ (z : List Lexeme). IsTreeOf grammar scopes begin z tree) (sym so_far) is.0;

@@ -117,7 +117,7 @@ module _ {A : Type 0} (symbols : A → Symbols) (met : A → Met) where
   pairs_are ends [] rs s e = refl
   pairs_are ends (p ∷ ps) rs s e =
       same_said (ap (λ (z : Symbols). record { token = p.0; want = want.Mark MARK_COMMA } ∷ z) (append_assoc (symbols p.1) (others ends (map symbols (values ps)) (commas ps ++ rs)) s))
-          (append_assoc (met p.1).events (all_met (map met (values ps))) e) ∙
+      (append_assoc (met p.1).events (all_met (map met (values ps))) e) ∙
       ap (λ (z : Said). token p.0 (want.Mark MARK_COMMA) (by_parts p.1 and z)) (pairs_are ends ps rs s e)
 
 abbrev pub arm_of : Binary → Expr → ℕ → ℕ → Arm
@@ -158,7 +158,7 @@ module _ (kind_of : ℕ → Option Kind) (bytes_of : ℕ → List ℕ) where
       (ap (λ (z : Symbols). z ++ k.symbols) (spell.base_form_compound_spelling_lem t (a ∷ values ps) (l ∷ r ∷ b ∷ (commas ps ++ rs))) ∙ simp append_assoc)
       (ap (λ (z : Met). z.events ++ k.events) (fold.base_form_compound_folds S t (a ∷ values ps) (l ∷ r ∷ b ∷ (commas ps ++ rs))) ∙ simp append_assoc) ∙
       ap (λ (z : Said). token l (want.Mark MARK_LEFT_PAREN) (of_type_name kind_of bytes_of t and token r (want.Mark MARK_RIGHT_PAREN) (token b (want.Mark MARK_LEFT_BRACE) (of_item kind_of bytes_of a and z))))
-          (pairs_are init_item_spelling (init_item_fold S) brace_end ps rs k.symbols k.events)
+      (pairs_are init_item_spelling (init_item_fold S) brace_end ps rs k.symbols k.events)
 
   pub size_before : (key : ℕ) (t : TypeName) (l r : ℕ) (k : Said) → of_base_form kind_of bytes_of (form.SizeType key t (l ∷ r ∷ [])) and k ≡
       token key (want.Among slot.SizeKey) (token l (want.Mark MARK_LEFT_PAREN) (of_type_name kind_of bytes_of t and token r (want.Mark MARK_RIGHT_PAREN) k))

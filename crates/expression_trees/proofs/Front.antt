@@ -38,21 +38,26 @@ module _ (kind_of : ℕ → Option Kind) (bytes_of : ℕ → List ℕ) where
         Before before u start scopes → X scopes w end → (f : Open) × Before f (u ++ tokens_of w) start end.1 × good end.0 f
 
   pub adds_pure : {A : Type 0} {before : Open} {good : A → Open → Type 0} (a : A) → good a before → Adds (pure a) before good
-  adds_pure {before = before} {good = good} a g = record { adds = λ u start scopes w end kn pre x.
-      (before,
+  adds_pure {before = before} {good = good} a g = record {
+    adds = λ u start scopes w end kn pre x. (
+      before,
       subst (λ (z : List (Leveled KeptToken)). Before before (u ++ tokens_of z) start end.1) (sym x.none)
           (subst (λ (z : List KeptToken). Before before z start end.1) (sym (append-nil u)) (subst (Before before u start) (sym (ap (λ (e : _). e.1) x.same)) pre)),
-      subst (λ (b : _). good b before) (sym (ap (λ (e : _). e.0) x.same)) g) }
+      subst (λ (b : _). good b before) (sym (ap (λ (e : _). e.0) x.same)) g,
+    );
+  }
 
   pub adds_then : {A B : Type 0} {X : Part A} {h : A → Part B} {before : Open} {fine : A → Open → Type 0} {good : B → Open → Type 0} → Adds X before fine →
       ((a : A) (f : Open) → fine a f → Adds (h a) f good) → Adds (X >>= h) before good
-  adds_then p q = record { adds = λ u start scopes w end kn pre x.
-      let k = known_cut x.front x.back (subst (AreKnown kind_of bytes_of) x.split kn) in
-      let l = p.adds u start scopes x.front x.value k.0 pre x.begin in
-      let r = (q x.value.0 l.0 l.2).adds (u ++ tokens_of x.front) start x.value.1 x.back end k.1 l.1 x.rest in
-      let same : (u ++ tokens_of x.front) ++ tokens_of x.back ≡ u ++ tokens_of w =
-          append_assoc u (tokens_of x.front) (tokens_of x.back) ∙ ap (λ (z : List KeptToken). u ++ z) (sym (ap tokens_of x.split ∙ tokens_append x.front x.back)) in
-      (r.0, subst (λ (z : List KeptToken). Before r.0 z start end.1) same r.1, r.2) }
+  adds_then p q = record {
+    adds = λ u start scopes w end kn pre x.
+        let k = known_cut x.front x.back (subst (AreKnown kind_of bytes_of) x.split kn) in
+        let l = p.adds u start scopes x.front x.value k.0 pre x.begin in
+        let r = (q x.value.0 l.0 l.2).adds (u ++ tokens_of x.front) start x.value.1 x.back end k.1 l.1 x.rest in
+        let same : (u ++ tokens_of x.front) ++ tokens_of x.back ≡ u ++ tokens_of w =
+        append_assoc u (tokens_of x.front) (tokens_of x.back) ∙ ap (λ (z : List KeptToken). u ++ z) (sym (ap tokens_of x.split ∙ tokens_append x.front x.back)) in
+        (r.0, subst (λ (z : List KeptToken). Before r.0 z start end.1) same r.1, r.2);
+  }
 
   one_or_other : {A : Type 0} {X Y : Part A} {before : Open} {good : A → Open → Type 0} → Adds X before good → Adds Y before good →
       (u : List KeptToken) (start scopes : OpenScopes) (w : List (Leveled KeptToken)) (end : A × OpenScopes) → AreKnown kind_of bytes_of w →
@@ -81,36 +86,40 @@ module _ (kind_of : ℕ → Option Kind) (bytes_of : ℕ → List ℕ) where
   pub adds_token : {B : Type 0} {before : Open} {h : ℕ → Part B} {good : B → Open → Type 0} {set : List ℕ} {put : ℕ → Open} {level : ℕ} → Says set put →
       ((n : ℕ) → IsOf set n → Adds (h n) (λ k. before (put n k)) good) → Adds (one_among set level >>= h) before good
   unfolding terminal_in
-  adds_token {before = before} {h = h} {set = set} {put = put} {level = level} s q = record { adds = λ u start scopes w end kn pre x.
-      let y = x.begin in
-      let k = known_cut x.front x.back (subst (AreKnown kind_of bytes_of) x.split kn) in
-      let known : AreKnown kind_of bytes_of ((y.token, level) ∷ []) = subst (AreKnown kind_of bytes_of) y.is k.0 in
-      let n = y.token.number in
-      let f : Open = λ k. before (put n k) in
-      let here : Before f (u ++ tokens_of x.front) start scopes = λ k v end g.
-          subst (λ (z : List KeptToken). AreSaid kind_of bytes_of (before (put n k)) (z ++ v) start end) (ap (λ (z : List (Leveled KeptToken)). u ++ tokens_of z) (sym y.is))
-          (subst (λ (z : List KeptToken). AreSaid kind_of bytes_of (before (put n k)) z start end) (sym (append_assoc u (y.token ∷ []) v))
-          (pre (put n k) (y.token ∷ v) end (s.says scopes end y.token k v y.fits known.0 g))) in
-      let is : IsOf set n = record { kind = y.token.lexeme.kind; spelling = y.token.lexeme.spelling; scopes = scopes; is = known.0.0; fits = y.fits } in
-      let rest : h n scopes x.back end = subst (λ (e : ℕ × OpenScopes). h e.0 e.1 x.back end) y.value x.rest in
-      let r = (q n is).adds (u ++ tokens_of x.front) start scopes x.back end k.1 here rest in
-      let same : (u ++ tokens_of x.front) ++ tokens_of x.back ≡ u ++ tokens_of w =
-          append_assoc u (tokens_of x.front) (tokens_of x.back) ∙ ap (λ (z : List KeptToken). u ++ z) (sym (ap tokens_of x.split ∙ tokens_append x.front x.back)) in
-      (r.0, subst (λ (z : List KeptToken). Before r.0 z start end.1) same r.1, r.2) }
+  adds_token {before = before} {h = h} {set = set} {put = put} {level = level} s q = record {
+    adds = λ u start scopes w end kn pre x.
+        let y = x.begin in
+        let k = known_cut x.front x.back (subst (AreKnown kind_of bytes_of) x.split kn) in
+        let known : AreKnown kind_of bytes_of ((y.token, level) ∷ []) = subst (AreKnown kind_of bytes_of) y.is k.0 in
+        let n = y.token.number in
+        let f : Open = λ k. before (put n k) in
+        let here : Before f (u ++ tokens_of x.front) start scopes = λ k v end g.
+        subst (λ (z : List KeptToken). AreSaid kind_of bytes_of (before (put n k)) (z ++ v) start end) (ap (λ (z : List (Leveled KeptToken)). u ++ tokens_of z) (sym y.is))
+        (subst (λ (z : List KeptToken). AreSaid kind_of bytes_of (before (put n k)) z start end) (sym (append_assoc u (y.token ∷ []) v))
+        (pre (put n k) (y.token ∷ v) end (s.says scopes end y.token k v y.fits known.0 g))) in
+        let is : IsOf set n = record { kind = y.token.lexeme.kind; spelling = y.token.lexeme.spelling; scopes = scopes; is = known.0.0; fits = y.fits } in
+        let rest : h n scopes x.back end = subst (λ (e : ℕ × OpenScopes). h e.0 e.1 x.back end) y.value x.rest in
+        let r = (q n is).adds (u ++ tokens_of x.front) start scopes x.back end k.1 here rest in
+        let same : (u ++ tokens_of x.front) ++ tokens_of x.back ≡ u ++ tokens_of w =
+        append_assoc u (tokens_of x.front) (tokens_of x.back) ∙ ap (λ (z : List KeptToken). u ++ z) (sym (ap tokens_of x.split ∙ tokens_append x.front x.back)) in
+        (r.0, subst (λ (z : List KeptToken). Before r.0 z start end.1) same r.1, r.2);
+  }
 
   -- ---- A part that is said by itself, and then the rest
 
   pub adds_part : {A B : Type 0} {X : Part A} {h : A → Part B} {before : Open} {fine : A → Open → Type 0} {good : B → Open → Type 0} → Adds X (λ k. k) fine →
       ((a : A) (f : Open) → fine a f → Adds (h a) (λ k. before (f k)) good) → Adds (X >>= h) before good
-  adds_part {before = before} p q = record { adds = λ u start scopes w end kn pre x.
-      let k = known_cut x.front x.back (subst (AreKnown kind_of bytes_of) x.split kn) in
-      let l = p.adds [] scopes scopes x.front x.value k.0 (λ k v end f. f) x.begin in
-      let here : Before (λ k. before (l.0 k)) (u ++ tokens_of x.front) start x.value.1 = λ k v end f.
-          subst (λ (z : List KeptToken). AreSaid kind_of bytes_of (before (l.0 k)) z start end) (sym (append_assoc u (tokens_of x.front) v)) (pre (l.0 k) (tokens_of x.front ++ v) end (l.1 k v end f)) in
-      let r = (q x.value.0 l.0 l.2).adds (u ++ tokens_of x.front) start x.value.1 x.back end k.1 here x.rest in
-      let same : (u ++ tokens_of x.front) ++ tokens_of x.back ≡ u ++ tokens_of w =
-          append_assoc u (tokens_of x.front) (tokens_of x.back) ∙ ap (λ (z : List KeptToken). u ++ z) (sym (ap tokens_of x.split ∙ tokens_append x.front x.back)) in
-      (r.0, subst (λ (z : List KeptToken). Before r.0 z start end.1) same r.1, r.2) }
+  adds_part {before = before} p q = record {
+    adds = λ u start scopes w end kn pre x.
+        let k = known_cut x.front x.back (subst (AreKnown kind_of bytes_of) x.split kn) in
+        let l = p.adds [] scopes scopes x.front x.value k.0 (λ k v end f. f) x.begin in
+        let here : Before (λ k. before (l.0 k)) (u ++ tokens_of x.front) start x.value.1 = λ k v end f.
+        subst (λ (z : List KeptToken). AreSaid kind_of bytes_of (before (l.0 k)) z start end) (sym (append_assoc u (tokens_of x.front) v)) (pre (l.0 k) (tokens_of x.front ++ v) end (l.1 k v end f)) in
+        let r = (q x.value.0 l.0 l.2).adds (u ++ tokens_of x.front) start x.value.1 x.back end k.1 here x.rest in
+        let same : (u ++ tokens_of x.front) ++ tokens_of x.back ≡ u ++ tokens_of w =
+        append_assoc u (tokens_of x.front) (tokens_of x.back) ∙ ap (λ (z : List KeptToken). u ++ z) (sym (ap tokens_of x.split ∙ tokens_append x.front x.back)) in
+        (r.0, subst (λ (z : List KeptToken). Before r.0 z start end.1) same r.1, r.2);
+  }
 
   -- What is said wants less, or says the same in other words.
   pub adds_from : {A : Type 0} {X : Part A} {before before' : Open} {good : A → Open → Type 0} →
@@ -129,11 +138,13 @@ module _ (kind_of : ℕ → Option Kind) (bytes_of : ℕ → List ℕ) where
   -- What is said of the value may want less.
   pub adds_looser : {A : Type 0} {X : Part A} {before : Open} {fine good : A → Open → Type 0} →
       ((a : A) (f : Open) → fine a f → (g : Open) × ((k : Said) (ts : List KeptToken) (scopes end : OpenScopes) → AreSaid kind_of bytes_of (f k) ts scopes end →
-          AreSaid kind_of bytes_of (g k) ts scopes end) × good a g) → Adds X before fine → Adds X before good
-  adds_looser up p = record { adds = λ u start scopes w end kn pre x.
-      let r = p.adds u start scopes w end kn pre x in
-      let g = up end.0 r.0 r.2 in
-      (g.0, (λ k v e f. g.1 k ((u ++ tokens_of w) ++ v) start e (r.1 k v e f)), g.2) }
+      AreSaid kind_of bytes_of (g k) ts scopes end) × good a g) → Adds X before fine → Adds X before good
+  adds_looser up p = record {
+    adds = λ u start scopes w end kn pre x.
+        let r = p.adds u start scopes w end kn pre x in
+        let g = up end.0 r.0 r.2 in
+        (g.0, (λ k v e f. g.1 k ((u ++ tokens_of w) ++ v) start e (r.1 k v e f)), g.2);
+  }
 
   -- ---- Loops
 

@@ -122,7 +122,8 @@ module _ (kind_of : ℕ → Option Kind) (bytes_of : ℕ → List ℕ) where
       ListIs said IsGood marks start parts all_marks f → (m : ℕ) (a : A) (g : Open) → Made said IsGood a g →
       ListIs said IsGood marks start (parts ++ a ∷ []) (all_marks ++ m ∷ []) (λ k. f (token m (want.Mark MARK_COMMA) (g k)))
   list_more {said = said} {IsGood = IsGood} {marks = marks} {start = start} parts all_marks f r m a g made = record {
-    head = r.head; others = r.others ++ (m, a) ∷ [];
+    head = r.head;
+    others = r.others ++ (m, a) ∷ [];
     parts_are = ap (λ (z : List _). z ++ a ∷ []) r.parts_are ∙ ap (λ (z : List _). r.head ∷ z) (sym (law.values_snoc r.others (m, a)));
     marks_are = ap (λ (z : List ℕ). z ++ m ∷ []) r.marks_are ∙ (append_assoc marks (commas r.others) (m ∷ []) ∙ ap (λ (z : List ℕ). marks ++ z) (sym (law.commas_snoc r.others (m, a))));
     good = r.good;
@@ -133,7 +134,13 @@ module _ (kind_of : ℕ → Option Kind) (bytes_of : ℕ → List ℕ) where
 
   list_one : {A : Type 0} {said : A → Said} {IsGood : A → Type 0} (marks : List ℕ) (start : Open) (a : A) (f : Open) → Made said IsGood a f → ListIs said IsGood marks start (a ∷ []) marks (λ k. start (f k))
   list_one marks start a f made = record {
-    head = a; others = []; parts_are = refl; marks_are = sym (append-nil marks); good = made.0; goods = tt; writes = λ k. ap start (sym (made.1 k));
+    head = a;
+    others = [];
+    parts_are = refl;
+    marks_are = sym (append-nil marks);
+    good = made.0;
+    goods = tt;
+    writes = λ k. ap start (sym (made.1 k));
   }
 
   module _ (inner : Contents) where
@@ -144,13 +151,14 @@ module _ (kind_of : ℕ → Option Kind) (bytes_of : ℕ → List ℕ) where
     expr_is p f r =
         let out = out-roll-Expr (record { parts = r.head ∷ values r.others; marks = commas r.others }) in
         let same : expr_of p ≡ roll-Expr (record { parts = r.head ∷ values r.others; marks = commas r.others }) =
-            ap (λ (z : List Assign). roll-Expr (record { parts = z; marks = p.marks })) r.parts_are ∙ ap (λ (z : List ℕ). roll-Expr (record { parts = r.head ∷ values r.others; marks = z })) r.marks_are in
+        ap (λ (z : List Assign). roll-Expr (record { parts = z; marks = p.marks })) r.parts_are ∙ ap (λ (z : List ℕ). roll-Expr (record { parts = r.head ∷ values r.others; marks = z })) r.marks_are in
         let right : IsExpr kind_of inner (roll-Expr (record { parts = r.head ∷ values r.others; marks = commas r.others })) = record {
           parts = subst (λ (y : _). All inner.IsAssign y.parts) (sym out) (all_of inner.IsAssign (r.head ∷ values r.others) (r.good, r.goods));
           commas = subst (λ (y : _). length y.parts ≡ 1 + length y.marks) (sym out) (omega (arith, length_commas r.others));
-        } in
-        (subst (IsExpr kind_of inner) (sym same) right,
-        λ k. ap (λ (z : Expr). of_expr kind_of bytes_of z and k) same ∙ (law.expr_before kind_of bytes_of r.head r.others k ∙ sym (r.writes k)))
+        } in (
+          subst (IsExpr kind_of inner) (sym same) right,
+          λ k. ap (λ (z : Expr). of_expr kind_of bytes_of z and k) same ∙ (law.expr_before kind_of bytes_of r.head r.others k ∙ sym (r.writes k)),
+        )
 
     module _ (d level : ℕ) (X : Part Assign) (fi : Adds kind_of bytes_of X (λ k. k) (Made (of_assign kind_of bytes_of) inner.IsAssign)) where
       adds_parts : (marks : List ℕ) → Adds kind_of bytes_of (lang.parts d level X marks) (λ k. k) (PartsAre marks (λ k. k))
@@ -193,27 +201,29 @@ module _ (kind_of : ℕ → Option Kind) (bytes_of : ℕ → List ℕ) where
       adds_index : Adds kind_of bytes_of (lang.index d level rules) (λ k. k) (Made (of_post kind_of bytes_of) IsSuffix)
       unfolding lang.index
       adds_index = adds_token kind_of bytes_of (says_mark kind_of bytes_of MARK_LEFT_BRACKET) (λ l h. adds_part kind_of bytes_of adds_inside (λ e f m.
-          adds_token kind_of bytes_of (says_mark kind_of bytes_of MARK_RIGHT_BRACKET) (λ r i. adds_pure kind_of bytes_of (post.Index e (l ∷ r ∷ []))
-          (post_right (o.Post-F.Post::Index e (l ∷ r ∷ [])) _ (post.rolls-Index e (l ∷ r ∷ [])) (m.0, refl),
-          λ k. law.index_before kind_of bytes_of e l r k ∙ ap (token l (want.Mark MARK_LEFT_BRACKET)) (m.1 (token r (want.Mark MARK_RIGHT_BRACKET) k))))))
+          adds_token kind_of bytes_of (says_mark kind_of bytes_of MARK_RIGHT_BRACKET) (λ r i. adds_pure kind_of bytes_of (post.Index e (l ∷ r ∷ [])) (
+            post_right (o.Post-F.Post::Index e (l ∷ r ∷ [])) _ (post.rolls-Index e (l ∷ r ∷ [])) (m.0, refl),
+            λ k. law.index_before kind_of bytes_of e l r k ∙ ap (token l (want.Mark MARK_LEFT_BRACKET)) (m.1 (token r (want.Mark MARK_RIGHT_BRACKET) k)),
+          ))))
 
       call_is : (l r : ℕ) (p : Parts) (f : Open) → PartsAre (l ∷ []) (λ k. k) p f →
           Made (of_post kind_of bytes_of) IsSuffix (call_of p r) (λ k. token l (want.Mark MARK_LEFT_PAREN) (f (token r (want.Mark MARK_RIGHT_PAREN) k)))
       call_is l r p f x =
           let same : call_of p r ≡ post.Call (x.head ∷ values x.others) (l ∷ (commas x.others ++ r ∷ [])) =
-              ap (λ (z : List Assign). post.Call z (p.marks ++ r ∷ [])) x.parts_are ∙ ap (λ (z : List ℕ). post.Call (x.head ∷ values x.others) (z ++ r ∷ [])) x.marks_are in
-          (subst IsSuffix (sym same) (post_right (o.Post-F.Call (x.head ∷ values x.others) (l ∷ (commas x.others ++ r ∷ []))) _ (post.rolls-Call (x.head ∷ values x.others) (l ∷ (commas x.others ++ r ∷ [])))
-              (record { each = all_of inner.IsAssign (x.head ∷ values x.others) (x.good, x.goods); commas = omega (arith, length_marks x.others (r ∷ [])) })),
-          λ k. ap (λ (z : Post). of_post kind_of bytes_of z and k) same ∙ (law.call_some_before kind_of bytes_of x.head x.others l r k ∙
-              ap (token l (want.Mark MARK_LEFT_PAREN)) (sym (x.writes (token r (want.Mark MARK_RIGHT_PAREN) k)))))
+          ap (λ (z : List Assign). post.Call z (p.marks ++ r ∷ [])) x.parts_are ∙ ap (λ (z : List ℕ). post.Call (x.head ∷ values x.others) (z ++ r ∷ [])) x.marks_are in (
+            subst IsSuffix (sym same) (post_right (o.Post-F.Call (x.head ∷ values x.others) (l ∷ (commas x.others ++ r ∷ []))) _ (post.rolls-Call (x.head ∷ values x.others) (l ∷ (commas x.others ++ r ∷ [])))
+                (record { each = all_of inner.IsAssign (x.head ∷ values x.others) (x.good, x.goods); commas = omega (arith, length_marks x.others (r ∷ [])) })),
+            λ k. ap (λ (z : Post). of_post kind_of bytes_of z and k) same ∙ (law.call_some_before kind_of bytes_of x.head x.others l r k ∙
+                ap (token l (want.Mark MARK_LEFT_PAREN)) (sym (x.writes (token r (want.Mark MARK_RIGHT_PAREN) k)))),
+          )
 
       adds_call : Adds kind_of bytes_of (lang.call d level rules) (λ k. k) (Made (of_post kind_of bytes_of) IsSuffix)
       unfolding lang.call lang.no_arguments lang.some_arguments
       adds_call = adds_token kind_of bytes_of (says_mark kind_of bytes_of MARK_LEFT_PAREN) (λ l h. adds_or kind_of bytes_of
           (adds_token kind_of bytes_of (says_mark kind_of bytes_of MARK_RIGHT_PAREN) (λ r i. adds_pure kind_of bytes_of (post.Call [] (l ∷ r ∷ []))
-              (post_right (o.Post-F.Call [] (l ∷ r ∷ [])) _ (post.rolls-Call [] (l ∷ r ∷ [])) (record { each = all_of inner.IsAssign [] tt; commas = refl }), law.call_none_before kind_of bytes_of l r)))
+          (post_right (o.Post-F.Call [] (l ∷ r ∷ [])) _ (post.rolls-Call [] (l ∷ r ∷ [])) (record { each = all_of inner.IsAssign [] tt; commas = refl }), law.call_none_before kind_of bytes_of l r)))
           (adds_part kind_of bytes_of (adds_parts d (suc level) (rules.assign) fi.assign (l ∷ [])) (λ p f x.
-              adds_token kind_of bytes_of (says_mark kind_of bytes_of MARK_RIGHT_PAREN) (λ r i. adds_pure kind_of bytes_of (call_of p r) (call_is l r p f x)))))
+          adds_token kind_of bytes_of (says_mark kind_of bytes_of MARK_RIGHT_PAREN) (λ r i. adds_pure kind_of bytes_of (call_of p r) (call_is l r p f x)))))
 
       adds_dot : Adds kind_of bytes_of (lang.dot d level rules) (λ k. k) (Made (of_post kind_of bytes_of) IsSuffix)
       unfolding lang.dot
@@ -237,8 +247,10 @@ module _ (kind_of : ℕ → Option Kind) (bytes_of : ℕ → List ℕ) where
       unfolding lang.all_suffixes lang.more_suffixes lang.suffix
       adds_suffixes = adds_many kind_of bytes_of d {good = SuffixesAre}
           (λ ps f r. adds_part kind_of bytes_of (adds_or kind_of bytes_of adds_index (adds_or kind_of bytes_of adds_call (adds_or kind_of bytes_of adds_dot (adds_or kind_of bytes_of adds_arrow adds_step))))
-              (λ p g m. adds_pure kind_of bytes_of (ps ++ p ∷ []) (every_snoc IsSuffix ps p r.0 m.0,
-              λ k. r.1 (g k) ∙ (ap (each (of_post kind_of bytes_of) ps) (sym (m.1 k)) ∙ sym (law.each_snoc (of_post kind_of bytes_of) ps p k)))))
+          (λ p g m. adds_pure kind_of bytes_of (ps ++ p ∷ []) (
+            every_snoc IsSuffix ps p r.0 m.0,
+            λ k. r.1 (g k) ∙ (ap (each (of_post kind_of bytes_of) ps) (sym (m.1 k)) ∙ sym (law.each_snoc (of_post kind_of bytes_of) ps p k)),
+          )))
           [] (tt, λ k. refl)
 
       -- ---- Compound literals (6.5.2.5)
@@ -261,12 +273,12 @@ module _ (kind_of : ℕ → Option Kind) (bytes_of : ℕ → List ℕ) where
       unfolding lang.all_items lang.item lang.comma_item lang.last_item lang.next_item
       adds_items marks {start = start} p x = adds_repeat kind_of bytes_of d {fine = ItemsAre marks start}
           (λ q g r. adds_or kind_of bytes_of
-              (adds_token kind_of bytes_of (says_mark kind_of bytes_of MARK_COMMA) (λ m h. adds_or kind_of bytes_of
-                  (adds_token kind_of bytes_of (says_mark kind_of bytes_of MARK_RIGHT_BRACE) (λ n i. adds_pure kind_of bytes_of (Done (with_mark (with_mark q m) n))
-                      (record { before = q; open_ = g; list = r; ends = m ∷ n ∷ []; ending = inr refl; items_are = refl; marks_are = append_assoc q.marks (m ∷ []) (n ∷ []); writes = λ k. refl })))
-                  (adds_part kind_of bytes_of fi.item (λ b t more. adds_pure kind_of bytes_of (Again (with_item q m b)) (list_more q.items q.marks g r m b t more)))))
-              (adds_token kind_of bytes_of (says_mark kind_of bytes_of MARK_RIGHT_BRACE) (λ n i. adds_pure kind_of bytes_of (Done (with_mark q n))
-                  (record { before = q; open_ = g; list = r; ends = n ∷ []; ending = inl refl; items_are = refl; marks_are = refl; writes = λ k. refl }))))
+          (adds_token kind_of bytes_of (says_mark kind_of bytes_of MARK_COMMA) (λ m h. adds_or kind_of bytes_of
+          (adds_token kind_of bytes_of (says_mark kind_of bytes_of MARK_RIGHT_BRACE) (λ n i. adds_pure kind_of bytes_of (Done (with_mark (with_mark q m) n))
+          (record { before = q; open_ = g; list = r; ends = m ∷ n ∷ []; ending = inr refl; items_are = refl; marks_are = append_assoc q.marks (m ∷ []) (n ∷ []); writes = λ k. refl })))
+          (adds_part kind_of bytes_of fi.item (λ b t more. adds_pure kind_of bytes_of (Again (with_item q m b)) (list_more q.items q.marks g r m b t more)))))
+          (adds_token kind_of bytes_of (says_mark kind_of bytes_of MARK_RIGHT_BRACE) (λ n i. adds_pure kind_of bytes_of (Done (with_mark q n))
+          (record { before = q; open_ = g; list = r; ends = n ∷ []; ending = inl refl; items_are = refl; marks_are = refl; writes = λ k. refl }))))
           p x
 
       -- ---- Operands and what stands before them (6.5.3, 6.5.4)
@@ -315,6 +327,7 @@ module _ (kind_of : ℕ → Option Kind) (bytes_of : ℕ → List ℕ) where
         where
           is_no : (kind : Kind) → kind_of n ≡ Some kind → (has a_unary (terminal_where (is_typedef_name i.scopes) kind i.spelling) ≡ true → ⊥) → ⊥
           is_no kind e g = g (let f : Some i.kind ≡ Some kind = sym i.is ∙ e in let same : i.kind ≡ kind = cc in subst (λ x. has a_unary (terminal_where (is_typedef_name i.scopes) x i.spelling) ≡ true) same i.fits)
+
           of : (kind_of n ≡ Some (k.Key KEY_SIZEOF)) ⊎ (kind_of n ≡ Some (k.Mark MARK_PLUS_PLUS)) ⊎ (kind_of n ≡ Some (k.Mark MARK_MINUS_MINUS)) → ⊥
           of (inl e) = is_no (k.Key KEY_SIZEOF) e never
           of (inr (inl e)) = is_no (k.Mark MARK_PLUS_PLUS) e never
@@ -364,9 +377,10 @@ module _ (kind_of : ℕ → Option Kind) (bytes_of : ℕ → List ℕ) where
 
         adds_name : Goes (lang.name d level rules c) ps
         unfolding lang.name
-        adds_name = adds_token kind_of bytes_of (says_name kind_of bytes_of) (λ n i. adds_pure kind_of bytes_of (Done (Operand ps (form.Name n)))
-            ((g, form_right (o.BaseForm-F.BaseForm::Name n) _ (form.rolls-Name n) tt, no_size (o.BaseForm-F.BaseForm::Name n) _ (form.rolls-Name n) (λ h. h)),
-            says_form (form.Name n) _ (law.name_before kind_of bytes_of n)))
+        adds_name = adds_token kind_of bytes_of (says_name kind_of bytes_of) (λ n i. adds_pure kind_of bytes_of (Done (Operand ps (form.Name n))) (
+          (g, form_right (o.BaseForm-F.BaseForm::Name n) _ (form.rolls-Name n) tt, no_size (o.BaseForm-F.BaseForm::Name n) _ (form.rolls-Name n) (λ h. h)),
+          says_form (form.Name n) _ (law.name_before kind_of bytes_of n),
+        ))
 
         literal_right : (n : ℕ) (ns : List ℕ) → IsForm (form.Literal (n ∷ ns)) × (IsSizeOfType (out-BaseForm (form.Literal (n ∷ ns))) → ⊥)
         literal_right n ns = (form_right (o.BaseForm-F.Literal (n ∷ ns)) _ (form.rolls-Literal (n ∷ ns)) (λ e. cc), no_size (o.BaseForm-F.Literal (n ∷ ns)) _ (form.rolls-Literal (n ∷ ns)) (λ h. h))
@@ -386,11 +400,11 @@ module _ (kind_of : ℕ → Option Kind) (bytes_of : ℕ → List ℕ) where
         unfolding lang.more_texts lang.one_more_text
         adds_row n = adds_many kind_of bytes_of d {good = Row n}
             (λ ms f r. adds_token kind_of bytes_of (says_text kind_of bytes_of) (λ m h. adds_pure kind_of bytes_of (ms ++ m ∷ [])
-                (record {
-                  extra = r.extra ++ m ∷ [];
-                  is = ap (λ (z : List ℕ). z ++ m ∷ []) r.is;
-                  writes = λ k. r.writes (token m want.Text k) ∙ ap (λ (z : Said). each (of_prefix kind_of bytes_of) ps (token n want.Text z)) (sym (law.texts_snoc r.extra m k));
-                })))
+            (record {
+              extra = r.extra ++ m ∷ [];
+              is = ap (λ (z : List ℕ). z ++ m ∷ []) r.is;
+              writes = λ k. r.writes (token m want.Text k) ∙ ap (λ (z : Said). each (of_prefix kind_of bytes_of) ps (token n want.Text z)) (sym (law.texts_snoc r.extra m k));
+            })))
             (n ∷ []) (record { extra = []; is = refl; writes = λ k. refl })
 
         unfoldable LiteralIs : List ℕ → Open → Type 0
@@ -400,18 +414,21 @@ module _ (kind_of : ℕ → Option Kind) (bytes_of : ℕ → List ℕ) where
         row_literal : (n : ℕ) (ms : List ℕ) (f : Open) (extra : List ℕ) → ms ≡ n ∷ extra → ((k : Said) → f k ≡ each (of_prefix kind_of bytes_of) ps (token n want.Text (texts extra k))) →
             (f' : Open) × ((k : Said) (ts : List KeptToken) (scopes end : OpenScopes) → AreSaid kind_of bytes_of (f k) ts scopes end → AreSaid kind_of bytes_of (f' k) ts scopes end) × LiteralIs ms f'
         unfolding LiteralIs
-        row_literal n ms f [] e w =
-            ((λ k. each (of_prefix kind_of bytes_of) ps (token n (want.Among slot.Literal) k)),
-            (λ k ts scopes end h. said_looser _ _ (looser_each (of_prefix kind_of bytes_of) ps (token n want.Text k) (token n (want.Among slot.Literal) k) (record { events = refl; fit = fit_text n k.symbols })) ts scopes end
-                (subst (λ (z : Said). AreSaid kind_of bytes_of z ts scopes end) (w k) h)),
-            subst (λ (z : List ℕ). (IsForm (form.Literal z) × (IsSizeOfType (out-BaseForm (form.Literal z)) → ⊥)) ×
-                ((k : Said) → each (of_prefix kind_of bytes_of) ps (token n (want.Among slot.Literal) k) ≡ each (of_prefix kind_of bytes_of) ps (of_base_form kind_of bytes_of (form.Literal z) and k))) (sym e)
-                (literal_right n [], says_form (form.Literal (n ∷ [])) _ (law.literal_before kind_of bytes_of n)))
-        row_literal n ms f (m ∷ extra) e w =
-            (f, (λ k ts scopes end h. h),
-            subst (λ (z : List ℕ). (IsForm (form.Literal z) × (IsSizeOfType (out-BaseForm (form.Literal z)) → ⊥)) ×
-                ((k : Said) → f k ≡ each (of_prefix kind_of bytes_of) ps (of_base_form kind_of bytes_of (form.Literal z) and k))) (sym e)
-                (literal_right n (m ∷ extra), λ k. w k ∙ says_form (form.Literal (n ∷ m ∷ extra)) _ (law.literals_before kind_of bytes_of n m extra) k))
+        row_literal n ms f [] e w = (
+          (λ k. each (of_prefix kind_of bytes_of) ps (token n (want.Among slot.Literal) k)),
+          (λ k ts scopes end h. said_looser _ _ (looser_each (of_prefix kind_of bytes_of) ps (token n want.Text k) (token n (want.Among slot.Literal) k) (record { events = refl; fit = fit_text n k.symbols })) ts scopes end
+              (subst (λ (z : Said). AreSaid kind_of bytes_of z ts scopes end) (w k) h)),
+          subst (λ (z : List ℕ). (IsForm (form.Literal z) × (IsSizeOfType (out-BaseForm (form.Literal z)) → ⊥)) ×
+              ((k : Said) → each (of_prefix kind_of bytes_of) ps (token n (want.Among slot.Literal) k) ≡ each (of_prefix kind_of bytes_of) ps (of_base_form kind_of bytes_of (form.Literal z) and k))) (sym e)
+              (literal_right n [], says_form (form.Literal (n ∷ [])) _ (law.literal_before kind_of bytes_of n)),
+        )
+        row_literal n ms f (m ∷ extra) e w = (
+          f,
+          (λ k ts scopes end h. h),
+          subst (λ (z : List ℕ). (IsForm (form.Literal z) × (IsSizeOfType (out-BaseForm (form.Literal z)) → ⊥)) ×
+              ((k : Said) → f k ≡ each (of_prefix kind_of bytes_of) ps (of_base_form kind_of bytes_of (form.Literal z) and k))) (sym e)
+              (literal_right n (m ∷ extra), λ k. w k ∙ says_form (form.Literal (n ∷ m ∷ extra)) _ (law.literals_before kind_of bytes_of n m extra) k),
+        )
 
         adds_text : Goes (lang.text d level rules c) ps
         unfolding lang.text LiteralIs
@@ -421,10 +438,11 @@ module _ (kind_of : ℕ → Option Kind) (bytes_of : ℕ → List ℕ) where
         adds_grouped : (l : ℕ) → Adds kind_of bytes_of (lang.grouped d level rules c l) (λ k. each (of_prefix kind_of bytes_of) ps (token l (want.Mark MARK_LEFT_PAREN) k)) TurnIs
         unfolding lang.grouped
         adds_grouped l = adds_part kind_of bytes_of adds_inside (λ e f m. adds_token kind_of bytes_of (says_mark kind_of bytes_of MARK_RIGHT_PAREN) (λ r i.
-            adds_pure kind_of bytes_of (Done (Operand ps (form.Group e (l ∷ r ∷ []))))
-            ((g, form_right (o.BaseForm-F.BaseForm::Group e (l ∷ r ∷ [])) _ (form.rolls-Group e (l ∷ r ∷ [])) (m.0, refl), no_size (o.BaseForm-F.BaseForm::Group e (l ∷ r ∷ [])) _ (form.rolls-Group e (l ∷ r ∷ [])) (λ h. h)),
-            says_form (form.Group e (l ∷ r ∷ [])) (λ k. token l (want.Mark MARK_LEFT_PAREN) (f (token r (want.Mark MARK_RIGHT_PAREN) k)))
-                (λ k. law.group_before kind_of bytes_of e l r k ∙ ap (token l (want.Mark MARK_LEFT_PAREN)) (m.1 (token r (want.Mark MARK_RIGHT_PAREN) k))))))
+            adds_pure kind_of bytes_of (Done (Operand ps (form.Group e (l ∷ r ∷ [])))) (
+              (g, form_right (o.BaseForm-F.BaseForm::Group e (l ∷ r ∷ [])) _ (form.rolls-Group e (l ∷ r ∷ [])) (m.0, refl), no_size (o.BaseForm-F.BaseForm::Group e (l ∷ r ∷ [])) _ (form.rolls-Group e (l ∷ r ∷ [])) (λ h. h)),
+              says_form (form.Group e (l ∷ r ∷ [])) (λ k. token l (want.Mark MARK_LEFT_PAREN) (f (token r (want.Mark MARK_RIGHT_PAREN) k)))
+                  (λ k. law.group_before kind_of bytes_of e l r k ∙ ap (token l (want.Mark MARK_LEFT_PAREN)) (m.1 (token r (want.Mark MARK_RIGHT_PAREN) k))),
+            )))
 
       -- A type name in parentheses, and then the rest.
       abbrev in_parens : TypeName → ℕ → ℕ → Open
@@ -437,9 +455,9 @@ module _ (kind_of : ℕ → Option Kind) (bytes_of : ℕ → List ℕ) where
           Adds kind_of bytes_of (pure (Done (Sized ps (form.SizeType n t (l ∷ r ∷ []))))) (λ k. each (of_prefix kind_of bytes_of) ps (token n (want.Key key) (in_parens t l r k))) TurnIs
       size_found key h ps n t l r g m = adds_from kind_of bytes_of
           (λ k ts scopes end f. said_looser _ _ (looser_each (of_prefix kind_of bytes_of) ps (token n (want.Key key) (in_parens t l r k)) (token n (want.Among slot.SizeKey) (in_parens t l r k))
-              (record { events = refl; fit = fit_size_key key h n (in_parens t l r k).symbols })) ts scopes end f)
+          (record { events = refl; fit = fit_size_key key h n (in_parens t l r k).symbols })) ts scopes end f)
           (adds_pure kind_of bytes_of (Done (Sized ps (form.SizeType n t (l ∷ r ∷ []))))
-              ((g, size_right n t l r m), λ k. ap (each (of_prefix kind_of bytes_of) ps) (sym (law.size_before kind_of bytes_of n t l r k))))
+          ((g, size_right n t l r m), λ k. ap (each (of_prefix kind_of bytes_of) ps) (sym (law.size_before kind_of bytes_of n t l r k))))
 
       record CompoundIs (ps : List Prefix) (x : BaseForm) (f : Open) : Type 0 where
         right : IsForm x
@@ -459,7 +477,7 @@ module _ (kind_of : ℕ → Option Kind) (bytes_of : ℕ → List ℕ) where
       compound_is ps t l r b p f m x =
           let y = x.list in
           let same : compound_of t p ≡ form.Compound t (y.head ∷ values y.others) (l ∷ r ∷ b ∷ (commas y.others ++ x.ends)) =
-              ap (λ (z : List InitItem). form.Compound t z p.marks) (x.items_are ∙ y.parts_are) ∙ ap (form.Compound t (y.head ∷ values y.others)) (x.marks_are ∙ ap (λ (z : List ℕ). z ++ x.ends) y.marks_are) in
+          ap (λ (z : List InitItem). form.Compound t z p.marks) (x.items_are ∙ y.parts_are) ∙ ap (form.Compound t (y.head ∷ values y.others)) (x.marks_are ∙ ap (λ (z : List ℕ). z ++ x.ends) y.marks_are) in
           let open_ = o.BaseForm-F.Compound t (y.head ∷ values y.others) (l ∷ r ∷ b ∷ (commas y.others ++ x.ends)) in
           let rolls = form.rolls-Compound t (y.head ∷ values y.others) (l ∷ r ∷ b ∷ (commas y.others ++ x.ends)) in
           record {
@@ -475,17 +493,20 @@ module _ (kind_of : ℕ → Option Kind) (bytes_of : ℕ → List ℕ) where
       unfolding lang.with_compound lang.compound
       adds_with_compound ps t l r g m = adds_then kind_of bytes_of {fine = CompoundIs ps}
           (adds_token kind_of bytes_of (says_mark kind_of bytes_of MARK_LEFT_BRACE) (λ b h. adds_part kind_of bytes_of fi.item (λ a f made.
-              adds_then kind_of bytes_of (adds_items (l ∷ r ∷ b ∷ []) (one_item a (l ∷ r ∷ b ∷ []))
-                  (list_one (l ∷ r ∷ b ∷ []) (λ k. each (of_prefix kind_of bytes_of) ps (in_parens t l r (token b (want.Mark MARK_LEFT_BRACE) k))) a f made))
-              (λ p q x. adds_pure kind_of bytes_of (compound_of t p) (compound_is ps t l r b p q m x)))))
+          adds_then kind_of bytes_of (adds_items (l ∷ r ∷ b ∷ []) (one_item a (l ∷ r ∷ b ∷ []))
+          (list_one (l ∷ r ∷ b ∷ []) (λ k. each (of_prefix kind_of bytes_of) ps (in_parens t l r (token b (want.Mark MARK_LEFT_BRACE) k))) a f made))
+          (λ p q x. adds_pure kind_of bytes_of (compound_of t p) (compound_is ps t l r b p q m x)))))
           (λ x f y. adds_pure kind_of bytes_of (Done (Operand ps x)) ((g, y.right, y.no_size_type), y.writes))
 
       -- Behind a type name in parentheses.
       adds_typed_at : (c : Chain) (t : TypeName) (l r : ℕ) (m : Mode) → ArePrefixes c.prefixes → ModeIs m c.prefixes → inner.IsTypeName t →
           Adds kind_of bytes_of (lang.typed_at d level rules c t (l ∷ r ∷ []) m) (λ k. raw m c.prefixes (in_parens t l r k)) TurnIs
       adds_typed_at c t l r Cast g h i = adds_or kind_of bytes_of (adds_with_compound c.prefixes t l r g i)
-          (adds_pure kind_of bytes_of (Again (with_cast c.prefixes t (l ∷ r ∷ []))) (cast_more c.prefixes t l r g h i, cast_allows c.prefixes t (l ∷ r ∷ []),
-          λ k. ap (each (of_prefix kind_of bytes_of) c.prefixes) (sym (law.cast_before kind_of bytes_of t l r k)) ∙ sym (law.each_snoc (of_prefix kind_of bytes_of) c.prefixes (prefix.Cast t (l ∷ r ∷ [])) k)))
+          (adds_pure kind_of bytes_of (Again (with_cast c.prefixes t (l ∷ r ∷ []))) (
+            cast_more c.prefixes t l r g h i,
+            cast_allows c.prefixes t (l ∷ r ∷ []),
+            λ k. ap (each (of_prefix kind_of bytes_of) c.prefixes) (sym (law.cast_before kind_of bytes_of t l r k)) ∙ sym (law.each_snoc (of_prefix kind_of bytes_of) c.prefixes (prefix.Cast t (l ∷ r ∷ [])) k),
+          ))
       adds_typed_at c t l r Literal g h i = adds_with_compound c.prefixes t l r g i
       adds_typed_at c t l r (Size n) g h i = adds_or kind_of bytes_of
           (adds_from kind_of bytes_of (λ k. flush (Size n) c.prefixes (in_parens t l r k)) (adds_with_compound (flushed (Size n) c.prefixes) t l r (op_more c.prefixes n g) i))
@@ -518,6 +539,7 @@ module _ (kind_of : ℕ → Option Kind) (bytes_of : ℕ → List ℕ) where
         where
           whole : ArePrefixes (flushed c.mode c.prefixes)
           whole = flushed_right c.mode c.prefixes g.0
+
           flat : {X : Part (Turn Chain Found)} → Goes X (flushed c.mode c.prefixes) → Adds kind_of bytes_of X (raw c.mode c.prefixes) TurnIs
           flat p = adds_from kind_of bytes_of (flush c.mode c.prefixes) p
 
@@ -536,9 +558,10 @@ module _ (kind_of : ℕ → Option Kind) (bytes_of : ℕ → List ℕ) where
       }
 
       adds_finished : (x : Found) (f : Open) → FoundIs x f → Adds kind_of bytes_of (lang.finished d level rules x) f (Made (of_prefixed kind_of bytes_of) (IsPrefixed kind_of inner))
-      adds_finished (Operand ps x) f g = adds_part kind_of bytes_of adds_suffixes (λ s h i. adds_pure kind_of bytes_of (prefixed_of ps x s)
-          (prefixed_right ps x s g.0.0 g.0.1 i.0 (λ z. absurd (g.0.2 z)),
-          λ k. law.prefixed_before kind_of bytes_of ps x s k ∙ (ap (λ (z : Said). each (of_prefix kind_of bytes_of) ps (of_base_form kind_of bytes_of x and z)) (sym (i.1 k)) ∙ sym (g.1 (h k)))))
+      adds_finished (Operand ps x) f g = adds_part kind_of bytes_of adds_suffixes (λ s h i. adds_pure kind_of bytes_of (prefixed_of ps x s) (
+        prefixed_right ps x s g.0.0 g.0.1 i.0 (λ z. absurd (g.0.2 z)),
+        λ k. law.prefixed_before kind_of bytes_of ps x s k ∙ (ap (λ (z : Said). each (of_prefix kind_of bytes_of) ps (of_base_form kind_of bytes_of x and z)) (sym (i.1 k)) ∙ sym (g.1 (h k))),
+      ))
       adds_finished (Sized ps x) f g = adds_pure kind_of bytes_of (prefixed_of ps x [])
           (prefixed_right ps x [] g.0.0 g.0.1 tt (λ z. refl), λ k. law.prefixed_before kind_of bytes_of ps x [] k ∙ sym (g.1 k))
 
@@ -557,22 +580,24 @@ module _ (kind_of : ℕ → Option Kind) (bytes_of : ℕ → List ℕ) where
       adds_operands : Adds kind_of bytes_of (lang.all_operands d level rules) (λ k. k) OperandsAre
       unfolding lang.all_operands lang.more_operands
       adds_operands = adds_many kind_of bytes_of d {good = OperandsAre}
-          (λ xs f r. adds_token kind_of bytes_of (says_binary kind_of bytes_of) (λ n h. adds_part kind_of bytes_of adds_prefixed (λ p g m. adds_pure kind_of bytes_of (xs ++ (n, p) ∷ [])
-              (every_snoc (λ (x : ℕ × Prefixed). IsPrefixed kind_of inner x.1) xs (n, p) r.0 m.0,
-              λ k. r.1 (token n (want.Among slot.BinaryOp) (g k)) ∙ (ap (λ (z : Said). each (of_operand kind_of bytes_of) xs (token n (want.Among slot.BinaryOp) z)) (sym (m.1 k)) ∙
-                  sym (law.each_snoc (of_operand kind_of bytes_of) xs (n, p) k))))))
+          (λ xs f r. adds_token kind_of bytes_of (says_binary kind_of bytes_of) (λ n h. adds_part kind_of bytes_of adds_prefixed (λ p g m. adds_pure kind_of bytes_of (xs ++ (n, p) ∷ []) (
+            every_snoc (λ (x : ℕ × Prefixed). IsPrefixed kind_of inner x.1) xs (n, p) r.0 m.0,
+            λ k. r.1 (token n (want.Among slot.BinaryOp) (g k)) ∙ (ap (λ (z : Said). each (of_operand kind_of bytes_of) xs (token n (want.Among slot.BinaryOp) z)) (sym (m.1 k)) ∙
+                sym (law.each_snoc (of_operand kind_of bytes_of) xs (n, p) k)),
+          ))))
           [] (tt, λ k. refl)
 
       -- Behind its first operand.
       adds_binary : (p : Prefixed) (start : Open) → IsPrefixed kind_of inner p → Adds kind_of bytes_of (lang.binary d level rules p) (λ k. start (of_prefixed kind_of bytes_of p and k))
           (λ b f. IsBinary kind_of inner b × ((k : Said) → f k ≡ start (of_binary kind_of bytes_of b and k)))
       unfolding lang.binary
-      adds_binary p start g = adds_part kind_of bytes_of adds_operands (λ xs f r. adds_pure kind_of bytes_of (binary_of p xs)
-          (let out = out-roll-Binary (record { first = p; rest = xs }) in record {
-            first = subst (λ (y : _). IsPrefixed kind_of inner y.first) (sym out) g;
-            rest = subst (λ (y : _). All (λ (x : ℕ × Prefixed). IsPrefixed kind_of inner x.1) y.rest) (sym out) (all_of (λ (x : ℕ × Prefixed). IsPrefixed kind_of inner x.1) xs r.0);
-          },
-          λ k. ap (λ (z : Said). start (of_prefixed kind_of bytes_of p and z)) (r.1 k) ∙ ap start (sym (law.binary_before kind_of bytes_of p xs k))))
+      adds_binary p start g = adds_part kind_of bytes_of adds_operands (λ xs f r. adds_pure kind_of bytes_of (binary_of p xs) (
+        let out = out-roll-Binary (record { first = p; rest = xs }) in record {
+          first = subst (λ (y : _). IsPrefixed kind_of inner y.first) (sym out) g;
+          rest = subst (λ (y : _). All (λ (x : ℕ × Prefixed). IsPrefixed kind_of inner x.1) y.rest) (sym out) (all_of (λ (x : ℕ × Prefixed). IsPrefixed kind_of inner x.1) xs r.0);
+        },
+        λ k. ap (λ (z : Said). start (of_prefixed kind_of bytes_of p and z)) (r.1 k) ∙ ap start (sym (law.binary_before kind_of bytes_of p xs k)),
+      ))
 
       abbrev ArmsAre : Open → Arms → Open → Type 0
       ArmsAre start s f = Every (IsArm kind_of inner) s.arms × IsBinary kind_of inner s.last × ((k : Said) → f k ≡ start (each (of_arm kind_of bytes_of) s.arms (of_binary kind_of bytes_of s.last and k)))
@@ -586,22 +611,24 @@ module _ (kind_of : ℕ → Option Kind) (bytes_of : ℕ → List ℕ) where
 
       armed : (start : Open) (s : Arms) (f g h : Open) (e : Expr) (q c : ℕ) → ArmsAre start s f → Made (of_expr kind_of bytes_of) (IsExpr kind_of inner) e g → (b : Binary) → IsBinary kind_of inner b →
           ((k : Said) → h k ≡ f (token q (want.Mark MARK_QUESTION) (g (token c (want.Mark MARK_COLON) (of_binary kind_of bytes_of b and k))))) → ArmsAre start (with_arm s e (q ∷ c ∷ []) b) h
-      armed start s f g h e q c r m b i writes =
-          (every_snoc (IsArm kind_of inner) s.arms (arm_of s.last e q c) r.0 (arm_right s.last e q c r.1 m.0), i,
-          λ k. let z : Said = token c (want.Mark MARK_COLON) (of_binary kind_of bytes_of b and k) in
-              writes k ∙ (r.2 (token q (want.Mark MARK_QUESTION) (g z)) ∙
-              (ap (λ (y : Said). start (each (of_arm kind_of bytes_of) s.arms (of_binary kind_of bytes_of s.last and token q (want.Mark MARK_QUESTION) y))) (sym (m.1 z)) ∙
-              (ap (λ (y : Said). start (each (of_arm kind_of bytes_of) s.arms y)) (sym (law.arm_before kind_of bytes_of s.last e q c (of_binary kind_of bytes_of b and k))) ∙
-              ap start (sym (law.each_snoc (of_arm kind_of bytes_of) s.arms (arm_of s.last e q c) (of_binary kind_of bytes_of b and k)))))))
+      armed start s f g h e q c r m b i writes = (
+        every_snoc (IsArm kind_of inner) s.arms (arm_of s.last e q c) r.0 (arm_right s.last e q c r.1 m.0),
+        i,
+        λ k. let z : Said = token c (want.Mark MARK_COLON) (of_binary kind_of bytes_of b and k) in
+            writes k ∙ (r.2 (token q (want.Mark MARK_QUESTION) (g z)) ∙
+            (ap (λ (y : Said). start (each (of_arm kind_of bytes_of) s.arms (of_binary kind_of bytes_of s.last and token q (want.Mark MARK_QUESTION) y))) (sym (m.1 z)) ∙
+            (ap (λ (y : Said). start (each (of_arm kind_of bytes_of) s.arms y)) (sym (law.arm_before kind_of bytes_of s.last e q c (of_binary kind_of bytes_of b and k))) ∙
+            ap start (sym (law.each_snoc (of_arm kind_of bytes_of) s.arms (arm_of s.last e q c) (of_binary kind_of bytes_of b and k)))))),
+      )
 
       adds_arms : (start : Open) (s : Arms) {f : Open} → ArmsAre start s f → Adds kind_of bytes_of (lang.all_arms d level rules s) f (ArmsAre start)
       unfolding lang.all_arms lang.more_arms
       adds_arms start s x = adds_many kind_of bytes_of d {good = ArmsAre start}
           (λ s f r. adds_token kind_of bytes_of (says_mark kind_of bytes_of MARK_QUESTION) (λ q h. adds_part kind_of bytes_of adds_inside (λ e g m. adds_token kind_of bytes_of (says_mark kind_of bytes_of MARK_COLON) (λ c i.
-              adds_part kind_of bytes_of adds_prefixed (λ p j n.
-              adds_same kind_of bytes_of (λ k. ap (λ (z : Said). f (token q (want.Mark MARK_QUESTION) (g (token c (want.Mark MARK_COLON) z)))) (sym (n.1 k)))
-                  (adds_then kind_of bytes_of (adds_binary p (λ k. f (token q (want.Mark MARK_QUESTION) (g (token c (want.Mark MARK_COLON) k)))) n.0)
-                      (λ b l o. adds_pure kind_of bytes_of (with_arm s e (q ∷ c ∷ []) b) (armed start s f g l e q c r m b o.0 o.1))))))))
+          adds_part kind_of bytes_of adds_prefixed (λ p j n.
+          adds_same kind_of bytes_of (λ k. ap (λ (z : Said). f (token q (want.Mark MARK_QUESTION) (g (token c (want.Mark MARK_COLON) z)))) (sym (n.1 k)))
+          (adds_then kind_of bytes_of (adds_binary p (λ k. f (token q (want.Mark MARK_QUESTION) (g (token c (want.Mark MARK_COLON) k)))) n.0)
+          (λ b l o. adds_pure kind_of bytes_of (with_arm s e (q ∷ c ∷ []) b) (armed start s f g l e q c r m b o.0 o.1))))))))
           s x
 
       -- ---- Targets (6.5.16)
@@ -627,9 +654,10 @@ module _ (kind_of : ℕ → Option Kind) (bytes_of : ℕ → List ℕ) where
           ((k : Said) → f k ≡ each (of_target kind_of bytes_of) ts (of_prefixed kind_of bytes_of p and k)) → Adds kind_of bytes_of (lang.target_at d level rules ts p b) f (by_turn kind_of bytes_of TargetsAre BegunIs)
       unfolding lang.set_target
       adds_target_at ts p f true e g h writes = adds_or kind_of bytes_of
-          (adds_token kind_of bytes_of (says_assignment kind_of bytes_of) (λ n i. adds_pure kind_of bytes_of (Again (ts ++ (p, n) ∷ []))
-              (every_snoc (IsTarget kind_of inner) ts (p, n) g (target_right p n h (sym e)),
-              λ k. writes (token n (want.Among slot.AssignOp) k) ∙ (ap (each (of_target kind_of bytes_of) ts) (sym (law.target_before kind_of bytes_of (p, n) k)) ∙ sym (law.each_snoc (of_target kind_of bytes_of) ts (p, n) k)))))
+          (adds_token kind_of bytes_of (says_assignment kind_of bytes_of) (λ n i. adds_pure kind_of bytes_of (Again (ts ++ (p, n) ∷ [])) (
+            every_snoc (IsTarget kind_of inner) ts (p, n) g (target_right p n h (sym e)),
+            λ k. writes (token n (want.Among slot.AssignOp) k) ∙ (ap (each (of_target kind_of bytes_of) ts) (sym (law.target_before kind_of bytes_of (p, n) k)) ∙ sym (law.each_snoc (of_target kind_of bytes_of) ts (p, n) k)),
+          )))
           (adds_pure kind_of bytes_of (Done (begun_of ts p)) (g, h, writes))
       adds_target_at ts p f false e g h writes = adds_pure kind_of bytes_of (Done (begun_of ts p)) (g, h, writes)
 

@@ -115,8 +115,10 @@ module _ (base : ℕ) where
   k_pure {n = n} {r = r} a e = record { keeps = λ scopes w b x. subst (λ z. Walks n z (r b.0)) (sym x.none) (e ∙ ap r (sym (ap (λ (z : _). z.0) x.same))) }
 
   pub k_then : {A B : Type 0} {X : Part A} {f : A → Part B} {n : Nesting} {r : A → Nesting} {s : B → Nesting} → Keeps X n r → ((a : A) → Keeps (f a) (r a) s) → Keeps (X >>= f) n s
-  k_then {n = n} {r = r} {s = s} p q = record { keeps = λ scopes w b x. subst (λ z. Walks n z (s b.0)) (sym x.split)
-      (walks_append n (r x.value.0) (s b.0) x.front x.back (p.keeps scopes x.front x.value x.begin) ((q x.value.0).keeps x.value.1 x.back b x.rest)) }
+  k_then {n = n} {r = r} {s = s} p q = record {
+    keeps = λ scopes w b x. subst (λ z. Walks n z (s b.0)) (sym x.split)
+        (walks_append n (r x.value.0) (s b.0) x.front x.back (p.keeps scopes x.front x.value x.begin) ((q x.value.0).keeps x.value.1 x.back b x.rest));
+  }
 
   either : {A : Type 0} {X Y : Part A} {n : Nesting} {r : A → Nesting} → Keeps X n r → Keeps Y n r → (scopes : OpenScopes) (w : List (Leveled KeptToken)) (e : A × OpenScopes) → X scopes w e ⊎ Y scopes w e → Walks n w (r e.0)
   either p q scopes w e (inl x) = p.keeps scopes w e x
@@ -129,8 +131,10 @@ module _ (base : ℕ) where
       ((t : List ℕ → Bool) (kind : Kind) (bytes : List ℕ) → has set (terminal_where t kind bytes) ≡ true → (level ≡ level_at n kind) × (after_token n kind ≡ m)) →
       ((x : ℕ) → Keeps (f x) m s) → Keeps (one_among set level >>= f) n s
   unfolding terminal_in
-  k_one set level n m h q = k_then {r = λ x. m} (record { keeps = λ scopes w e x. subst (λ z. Walks n z m) (sym x.is)
-      (h (is_typedef_name scopes) x.token.lexeme.kind x.token.lexeme.spelling x.fits) }) q
+  k_one set level n m h q = k_then {r = λ x. m} (record {
+    keeps = λ scopes w e x. subst (λ z. Walks n z m) (sym x.is)
+        (h (is_typedef_name scopes) x.token.lexeme.kind x.token.lexeme.spelling x.fits);
+  }) q
 
   pub k_flat : {B : Type 0} {f : ℕ → Part B} {s : B → Nesting} (set : List ℕ) {level : ℕ} {n : Nesting} → are_disjoint set shaping ≡ true → level ≡ base + nesting_level n →
       ((x : ℕ) → Keeps (f x) n s) → Keeps (one_among set level >>= f) n s
@@ -225,10 +229,10 @@ module _ (base : ℕ) where
     k_suffix =
         k_or (k_open MARK_LEFT_BRACKET refl e (λ l. k_then k_inside (λ x. k_shut MARK_RIGHT_BRACKET refl refl e (λ r. k_pure (post.Index x (l ∷ r ∷ [])) refl))))
         (k_or (k_open MARK_LEFT_PAREN refl e (λ l. k_or (k_shut MARK_RIGHT_PAREN refl refl e (λ r. k_pure (post.Call [] (l ∷ r ∷ [])) refl))
-            (k_then (k_parts d (suc level) (inside_of n) within (rules.assign) (ki.assign (inside_of n) within) (l ∷ [])) (λ p. k_shut MARK_RIGHT_PAREN refl refl e (λ r. k_pure (call_of p r) refl)))))
+        (k_then (k_parts d (suc level) (inside_of n) within (rules.assign) (ki.assign (inside_of n) within) (l ∷ [])) (λ p. k_shut MARK_RIGHT_PAREN refl refl e (λ r. k_pure (call_of p r) refl)))))
         (k_or (k_flat (mark MARK_DOT ∷ []) refl e (λ m. k_flat any_name refl e (λ x. k_pure (post.Dot x (m ∷ [])) refl)))
         (k_or (k_flat (mark MARK_ARROW ∷ []) refl e (λ m. k_flat any_name refl e (λ x. k_pure (post.Arrow x (m ∷ [])) refl)))
-            (k_flat a_step refl e (λ x. k_pure (post.Step x) refl)))))
+        (k_flat a_step refl e (λ x. k_pure (post.Step x) refl)))))
 
     k_suffixes : Keeps (lang.all_suffixes d level rules) n (λ a. n)
     unfolding lang.all_suffixes lang.more_suffixes

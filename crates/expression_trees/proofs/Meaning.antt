@@ -47,26 +47,33 @@ module _ (kind_of : ℕ → Option Kind) (bytes_of : ℕ → List ℕ) where
       record { front = x ∷ r.front; back = r.back; split = ap (λ (z : List KeptToken). x ∷ z) r.split; begin = (h.0, r.begin); rest = r.rest }
 
   pub adds_of_trees : {A : Type 0} (X : Part A) (good : A → Type 0) (said : A → Said) → AreTrees kind_of bytes_of X good said → Adds kind_of bytes_of X (λ k. k) (Made kind_of bytes_of said good)
-  adds_of_trees X good said h = record { adds = λ u start scopes w end kn pre x.
-      let t = h scopes end.1 w end.0 kn x in
-      ((λ k. said end.0 and k),
-      (λ k v e f. subst (λ (z : List KeptToken). AreSaid kind_of bytes_of (said end.0 and k) z start e) (sym (append_assoc u (tokens_of w) v))
-          (pre (said end.0 and k) (tokens_of w ++ v) e
-          (fit_then (said end.0).symbols k.symbols (tokens_of w) v t.1.0 f.0, met_then scopes end.1 e (said end.0).events k.events t.1.1 f.1))),
-      (t.0, λ k. refl)) }
+  adds_of_trees X good said h = record {
+    adds = λ u start scopes w end kn pre x.
+        let t = h scopes end.1 w end.0 kn x in (
+          (λ k. said end.0 and k),
+          (λ k v e f. subst (λ (z : List KeptToken). AreSaid kind_of bytes_of (said end.0 and k) z start e) (sym (append_assoc u (tokens_of w) v))
+              (pre (said end.0 and k) (tokens_of w ++ v) e
+              (fit_then (said end.0).symbols k.symbols (tokens_of w) v t.1.0 f.0, met_then scopes end.1 e (said end.0).events k.events t.1.1 f.1))),
+          (t.0, λ k. refl),
+        );
+  }
 
   pub trees_of_adds : {A : Type 0} {X : Part A} {good : A → Type 0} (said : A → Said) → Adds kind_of bytes_of X (λ k. k) (Made kind_of bytes_of said good) → AreTrees kind_of bytes_of X good said
   trees_of_adds said p scopes end word a kn x =
       let r = p.adds [] scopes scopes word (a, end) kn (λ k v e f. f) x in
-      let whole : AreSaid kind_of bytes_of (r.0 nothing) (tokens_of word ++ []) scopes end = r.1 nothing [] end (tt, refl) in
-      (r.2.0, subst (λ (z : Said). AreSaid kind_of bytes_of z (tokens_of word) scopes end) (sym (r.2.1 nothing) ∙ said_nothing (said a))
-          (subst (λ (z : List KeptToken). AreSaid kind_of bytes_of (r.0 nothing) z scopes end) (append-nil (tokens_of word)) whole))
+      let whole : AreSaid kind_of bytes_of (r.0 nothing) (tokens_of word ++ []) scopes end = r.1 nothing [] end (tt, refl) in (
+        r.2.0,
+        subst (λ (z : Said). AreSaid kind_of bytes_of z (tokens_of word) scopes end) (sym (r.2.1 nothing) ∙ said_nothing (said a))
+            (subst (λ (z : List KeptToken). AreSaid kind_of bytes_of (r.0 nothing) z scopes end) (append-nil (tokens_of word)) whole),
+      )
 
   pub back_of_words : {A : Type 0} (X : ℕ → Part A) (good : A → Type 0) (said : A → Said) → AreWords kind_of bytes_of X good said → (a : A) → good a → Back kind_of bytes_of X a (λ k. said a and k)
-  back_of_words X good said h a g = record { reads = λ k ts scopes end f.
-      let c = fit_cut (said a).symbols k.symbols ts f.0 in
-      let m = met_cut scopes end (said a).events k.events f.1 in
-      record { front = c.front; back = c.back; middle = m.0; split = c.split; begin = h a g scopes m.0 c.front (c.begin, m.1); rest = (c.rest, m.2) } }
+  back_of_words X good said h a g = record {
+    reads = λ k ts scopes end f.
+        let c = fit_cut (said a).symbols k.symbols ts f.0 in
+        let m = met_cut scopes end (said a).events k.events f.1 in
+        record { front = c.front; back = c.back; middle = m.0; split = c.split; begin = h a g scopes m.0 c.front (c.begin, m.1); rest = (c.rest, m.2) };
+  }
 
   no_more : (ts front back : List KeptToken) → ts ≡ front ++ back → FitTokens kind_of bytes_of [] back → front ≡ ts
   no_more ts front [] e f = sym (e ∙ append-nil front)

@@ -59,10 +59,11 @@ met_from : (scopes : OpenScopes) (before events : List Event) → ((b after : Li
 met_from scopes before [] h = ap (after_events scopes) (append-nil before)
 met_from scopes before (event ∷ events) h =
     let more : (before ++ event ∷ []) ++ events ≡ before ++ event ∷ events = append_assoc before (event ∷ []) events in
-    let rest = met_from scopes (before ++ event ∷ []) events (λ b after other e. h b after other (sym more ∙ e)) in
-    (event_right scopes before event (h before events event refl),
-    subst (λ s. AreMet s events (after_events scopes (before ++ event ∷ events))) (after_snoc scopes before event)
-        (subst (λ (es : List Event). AreMet (after_events scopes (before ++ event ∷ [])) events (after_events scopes es)) more rest))
+    let rest = met_from scopes (before ++ event ∷ []) events (λ b after other e. h b after other (sym more ∙ e)) in (
+      event_right scopes before event (h before events event refl),
+      subst (λ s. AreMet s events (after_events scopes (before ++ event ∷ events))) (after_snoc scopes before event)
+          (subst (λ (es : List Event). AreMet (after_events scopes (before ++ event ∷ [])) events (after_events scopes es)) more rest),
+    )
 
 pub are_met : (scopes : OpenScopes) (events : List Event) → AreRight (events_to scopes) events → AreMet scopes events (after_events scopes events)
 are_met scopes events h = met_from scopes [] events h

@@ -61,7 +61,7 @@ module _ (kind_of : ℕ → Option Kind) (bytes_of : ℕ → List ℕ) where
   pointing_symbols : (ps : List Pointer) → declarator_spelling (pointing ps) ≡ joined (map pointer_spelling ps)
   pointing_symbols ps = spell.declarator_spelling_lem (pointing ps) ∙
       (ap (λ (y : _). declarator_level (record { pointers = y.pointers; core = core_spelling y.core; suffixes = map suffix_spelling y.suffixes; width = option_map expr_spelling y.width; marks = y.marks }))
-          (out-roll-Declarator (record { pointers = ps; core = core.Empty; suffixes = []; width = None; marks = [] })) ∙
+      (out-roll-Declarator (record { pointers = ps; core = core.Empty; suffixes = []; width = None; marks = [] })) ∙
       (ap (λ (z : Symbols). joined (map pointer_spelling ps) ++ (z ++ [])) spell.core_empty_spelling_lem ∙ append-nil (joined (map pointer_spelling ps))))
 
   pointing_events : (ps : List Pointer) → (declarator_fold (steps_of kind_of bytes_of) (pointing ps)).events ≡ []
@@ -69,7 +69,7 @@ module _ (kind_of : ℕ → Option Kind) (bytes_of : ℕ → List ℕ) where
       let S = steps_of kind_of bytes_of in
       ap (λ (z : Met). z.events) (fold.declarator_folds S (pointing ps)) ∙
       (ap (λ (y : _). (core_fold S y.core).events ++ (all_met (map (suffix_fold S) y.suffixes) ++ some_met (option_map (expr_fold S) y.width)))
-          (out-roll-Declarator (record { pointers = ps; core = core.Empty; suffixes = []; width = None; marks = [] })) ∙
+      (out-roll-Declarator (record { pointers = ps; core = core.Empty; suffixes = []; width = None; marks = [] })) ∙
       ap (λ (z : Met). z.events ++ []) (fold.core_empty_folds S))
 
   pub type_before : (words : List Spec) (ps : List Pointer) (k : Said) → of_type_name kind_of bytes_of (type_name_of words ps) and k ≡ each (of_spec kind_of bytes_of) words (each (of_pointer kind_of bytes_of) ps k)
@@ -110,9 +110,10 @@ module _ (kind_of : ℕ → Option Kind) (bytes_of : ℕ → List ℕ) where
   adds_stars : (d level : ℕ) → Adds kind_of bytes_of (lang.stars d level) (λ k. k) StarsAre
   unfolding lang.stars lang.one_more_star
   adds_stars d level = adds_many kind_of bytes_of d {good = StarsAre}
-      (λ ps f r. adds_token kind_of bytes_of (says_mark kind_of bytes_of MARK_STAR) (λ n i. adds_pure kind_of bytes_of (ps ++ pointer n ∷ [])
-          ((r.0.0 ++ n ∷ [], ap (λ (z : List Pointer). z ++ pointer n ∷ []) r.0.1 ∙ map_snoc pointer r.0.0 n),
-          λ k. r.1 (token n (want.Mark MARK_STAR) k) ∙ (ap (each (of_pointer kind_of bytes_of) ps) (sym (pointer_before n k)) ∙ sym (law.each_snoc (of_pointer kind_of bytes_of) ps (pointer n) k)))))
+      (λ ps f r. adds_token kind_of bytes_of (says_mark kind_of bytes_of MARK_STAR) (λ n i. adds_pure kind_of bytes_of (ps ++ pointer n ∷ []) (
+        (r.0.0 ++ n ∷ [], ap (λ (z : List Pointer). z ++ pointer n ∷ []) r.0.1 ∙ map_snoc pointer r.0.0 n),
+        λ k. r.1 (token n (want.Mark MARK_STAR) k) ∙ (ap (each (of_pointer kind_of bytes_of) ps) (sym (pointer_before n k)) ∙ sym (law.each_snoc (of_pointer kind_of bytes_of) ps (pointer n) k)),
+      )))
       [] (([], refl), λ k. refl)
 
   abbrev basic : ℕ → Spec
@@ -125,9 +126,10 @@ module _ (kind_of : ℕ → Option Kind) (bytes_of : ℕ → List ℕ) where
   adds_basic : (d level : ℕ) → Adds kind_of bytes_of (lang.basic d level) (λ k. k) BasicAre
   unfolding lang.basic lang.more_words lang.one_more_word
   adds_basic d level = adds_token kind_of bytes_of (says_basic kind_of bytes_of) (λ m h. adds_many kind_of bytes_of d {good = BasicAre}
-      (λ ws f r. adds_token kind_of bytes_of (says_basic kind_of bytes_of) (λ n i. adds_pure kind_of bytes_of (ws ++ spec.Basic n ∷ [])
-          ((r.0.0, r.0.1 ++ n ∷ [], ap (λ (z : List Spec). z ++ spec.Basic n ∷ []) r.0.2 ∙ map_snoc basic (r.0.0 ∷ r.0.1) n),
-          λ k. r.1 (token n (want.Among slot.Basic) k) ∙ (ap (each (of_spec kind_of bytes_of) ws) (sym (law.spec_basic_before kind_of bytes_of n k)) ∙ sym (law.each_snoc (of_spec kind_of bytes_of) ws (spec.Basic n) k)))))
+      (λ ws f r. adds_token kind_of bytes_of (says_basic kind_of bytes_of) (λ n i. adds_pure kind_of bytes_of (ws ++ spec.Basic n ∷ []) (
+        (r.0.0, r.0.1 ++ n ∷ [], ap (λ (z : List Spec). z ++ spec.Basic n ∷ []) r.0.2 ∙ map_snoc basic (r.0.0 ∷ r.0.1) n),
+        λ k. r.1 (token n (want.Among slot.Basic) k) ∙ (ap (each (of_spec kind_of bytes_of) ws) (sym (law.spec_basic_before kind_of bytes_of n k)) ∙ sym (law.each_snoc (of_spec kind_of bytes_of) ws (spec.Basic n) k)),
+      )))
       (spec.Basic m ∷ []) ((m, [], refl), λ k. sym (law.spec_basic_before kind_of bytes_of m k)))
 
   abbrev NamedIs : List Spec → Open → Type 0

@@ -281,10 +281,12 @@ module _ (kind_of : ℕ → Option Kind) (bytes_of : ℕ → List ℕ) where
   pub hears_known : (set : List ℕ) (wanted : Want) (n : ℕ) (kind : Kind) → kind_of n ≡ Some kind → ((t : List ℕ → Bool) (bytes : List ℕ) → has set (terminal_where t kind bytes) ≡ true) →
       Hears kind_of bytes_of set n (token n wanted)
   unfolding terminal_in
-  hears_known set wanted n kind e h = record { hears = hears_at set wanted n (λ scopes t same known f.
-      let k : Some t.lexeme.kind ≡ Some kind = sym known.0 ∙ (ap kind_of (sym same) ∙ e) in
-      let is : t.lexeme.kind ≡ kind = cc in
-      subst (λ x. has set (terminal_where (is_typedef_name scopes) x t.lexeme.spelling) ≡ true) (sym is) (h (is_typedef_name scopes) t.lexeme.spelling)) }
+  hears_known set wanted n kind e h = record {
+    hears = hears_at set wanted n (λ scopes t same known f.
+        let k : Some t.lexeme.kind ≡ Some kind = sym known.0 ∙ (ap kind_of (sym same) ∙ e) in
+        let is : t.lexeme.kind ≡ kind = cc in
+        subst (λ x. has set (terminal_where (is_typedef_name scopes) x t.lexeme.spelling) ≡ true) (sym is) (h (is_typedef_name scopes) t.lexeme.spelling));
+  }
 
   -- What is known of the first token.
   pub record Seen (n : ℕ) (wanted : Want) : Type 0 where
@@ -337,9 +339,11 @@ module _ (kind_of : ℕ → Option Kind) (bytes_of : ℕ → List ℕ) where
 
   says_named : (b : Bool) (w : ℕ) → w ≤ 1 → ((c : Bool) → w ≡ word_terminal c → c ≡ b) → Says kind_of bytes_of (w ∷ []) (named b)
   unfolding terminal_in
-  says_named b w low h = record { says = λ scopes end t rest v e known f.
-      let n = name_is w (is_typedef_name scopes) t.lexeme.kind t.lexeme.spelling low e in
-      (((refl, n.0, known), f.0), (ap (is_typedef_name scopes) known.1 ∙ h _ n.1, f.1)) }
+  says_named b w low h = record {
+    says = λ scopes end t rest v e known f.
+        let n = name_is w (is_typedef_name scopes) t.lexeme.kind t.lexeme.spelling low e in
+        (((refl, n.0, known), f.0), (ap (is_typedef_name scopes) known.1 ∙ h _ n.1, f.1));
+  }
 
   hears_named_at : (b : Bool) (n : ℕ) (scopes end : OpenScopes) (rest : Said) (ts : List KeptToken) → AreSaid kind_of bytes_of (named b n rest) ts scopes end →
       (t : KeptToken) × (others : List KeptToken) × (ts ≡ t ∷ others) × (n ≡ t.number) × (has (word_terminal b ∷ []) (terminal_of scopes t) ≡ true) ×
@@ -347,9 +351,15 @@ module _ (kind_of : ℕ → Option Kind) (bytes_of : ℕ → List ℕ) where
   unfolding terminal_in
   hears_named_at b n scopes end rest [] f = absurd f.0
   hears_named_at b n scopes end rest (t ∷ ts) f =
-      let same : is_typedef_name scopes t.lexeme.spelling ≡ b = ap (is_typedef_name scopes) (sym f.0.0.2.1 ∙ ap bytes_of (sym f.0.0.0)) ∙ f.1.0 in
-      (t, ts, refl, f.0.0.0, has_here (word_terminal b) (terminal_where (is_typedef_name scopes) t.lexeme.kind t.lexeme.spelling) []
-          (ap word_terminal (sym same) ∙ ap (λ x. terminal_where (is_typedef_name scopes) x t.lexeme.spelling) (sym f.0.0.1)), (f.0.1, f.1.1))
+      let same : is_typedef_name scopes t.lexeme.spelling ≡ b = ap (is_typedef_name scopes) (sym f.0.0.2.1 ∙ ap bytes_of (sym f.0.0.0)) ∙ f.1.0 in (
+        t,
+        ts,
+        refl,
+        f.0.0.0,
+        has_here (word_terminal b) (terminal_where (is_typedef_name scopes) t.lexeme.kind t.lexeme.spelling) []
+            (ap word_terminal (sym same) ∙ ap (λ x. terminal_where (is_typedef_name scopes) x t.lexeme.spelling) (sym f.0.0.1)),
+        (f.0.1, f.1.1),
+      )
 
   pub says_name : Says kind_of bytes_of a_name (named false)
   says_name = says_named false WORD (omega arith) word_is

@@ -46,11 +46,14 @@ pub data IsReadExactly {Tree : Type 0} (grammar : Grammar Tree) (scopes : OpenSc
     (around : Around) (base begin : ℕ) (lexemes : List Lexeme) :
     Outcome KeptToken OpenScopes Around Tree → Type 0 where
   reads : (count : ℕ) (tree : Tree) → IsReadAs grammar scopes begin lexemes tree count →
-      IsReadExactly grammar scopes around base begin lexemes (Ok (tree, record {
-        tokens = numbered (begin + count) (drop count lexemes);
-        scope = scopes_behind grammar scopes begin (take count lexemes) tree;
-        around = around;
-      }))
+      IsReadExactly grammar scopes around base begin lexemes (Ok (
+        tree,
+        record {
+          tokens = numbered (begin + count) (drop count lexemes);
+          scope = scopes_behind grammar scopes begin (take count lexemes) tree;
+          around = around;
+        },
+      ))
   refuses : (count : ℕ) (scope : OpenScopes) → Offends grammar scopes begin lexemes count →
       IsReadExactly grammar scopes around base begin lexemes (Err (offends (record {
         tokens = numbered (begin + count) (drop count lexemes);

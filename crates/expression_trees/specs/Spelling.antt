@@ -27,17 +27,20 @@ abbrev pub scopes_behind : {Tree : Type 0} → Grammar Tree → OpenScopes → �
 scopes_behind grammar scopes begin lexemes tree = after_events scopes (grammar.events
     (λ token. kind_at lexemes (token - begin)) (λ token. spelling_at lexemes (token - begin)) tree)
 
--- The words of the rule and the trees of the grammar are the same: of tokens that are numbered from
--- some number on a word of the rule is a tree that they spell, and a tree that they spell is a word;
--- and what begins a word begins a tree.
-pub record AreItsTrees {Tree : Type 0} (rule : ℕ → Part Tree) (grammar : Grammar Tree) : Type 0 where
+-- The words of the rule and the trees of the grammar are the same. Of tokens that are numbered from
+-- some number on a word of the rule is a tree that they spell, and a tree that they spell is a
+-- word; and what begins a word begins a tree.
+pub record AreItsTrees {Tree : Type 0} (rule : ℕ → Part Tree)
+    (grammar : Grammar Tree) : Type 0 where
   pub trees : (scopes end : OpenScopes) (begin turns : ℕ) (lexemes : List Lexeme)
       (word : List (Leveled KeptToken)) (tree : Tree) → tokens_of word ≡ numbered begin lexemes →
       rule turns scopes word (tree, end) →
-      IsTreeOf grammar scopes begin lexemes tree × (end ≡ scopes_behind grammar scopes begin lexemes tree)
+      IsTreeOf grammar scopes begin lexemes tree ×
+      (end ≡ scopes_behind grammar scopes begin lexemes tree)
   pub words : (scopes : OpenScopes) (begin : ℕ) (lexemes : List Lexeme) (tree : Tree) →
       IsTreeOf grammar scopes begin lexemes tree →
-      IsWord rule tree (numbered begin lexemes) scopes (scopes_behind grammar scopes begin lexemes tree)
+      IsWord rule tree (numbered begin lexemes) scopes
+      (scopes_behind grammar scopes begin lexemes tree)
   pub begins : (scopes : OpenScopes) (begin turns : ℕ) (lexemes : List Lexeme)
       (run more : List (Leveled KeptToken)) (end : Tree × OpenScopes) →
       tokens_of run ≡ numbered begin lexemes → AreLexemes IsToken more →
