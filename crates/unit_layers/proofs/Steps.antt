@@ -1,0 +1,82 @@
+-- Steps of loops over lists: what is counted, kept and joined with one item more.
+use Rattle.std.proofs.Common.{◌≡◌, ℕ, zero, suc, ◌+◌, ◌<◌, ◌≤◌, cond, Bool, true, false, List, [], ◌∷◌, ◌++◌, filter, length, map, take, get_or, refl, ap, sym, subst, ◌∙◌, arith, append-nil, append_assoc}
+use Rattle.std.specs.List.{flat_map, range_with_len}
+use Rattle.std.proofs.lemmas.List.{length-append}
+use Rattle.std.proofs.lemmas.List.Elements.{filter-append}
+use Rattle.cpg_schema.specs.Graph.{PlainGraph}
+use Rattle.cpg_schema.specs.Deltas.{NewEdge, PlainDelta}
+use Rattle.graph_forest.specs.Forest.{leaf, nodes_of, edges_of, with_forest}
+use Rattle.graph_forest.specs.declared.hang.Hang.TheVariants.{Plain}
+use Rattle.graph_forest.specs.Planting.{Planting, Plants, innermost}
+use Rattle.cpg_schema.specs.Graph.{PlainNode}
+use Rattle.unit_layers.specs.Adding.{with_edges}
+use Rattle.unit_layers.specs.Ready.{IsRow}
+use Rattle.unit_layers.specs.UnitEdges.{linked, parameter_edges}
+
+-- The range with one number more.
+pub range_more : (a n : ℕ) → range_with_len a (n + 1) ≡ range_with_len a n ++ (a + n) ∷ []
+range_more a zero = let e : a ≡ a + 0 = omega arith in ap (λ (k : ℕ). k ∷ []) e
+range_more a (suc n) =
+    let e : a + 1 + n ≡ a + suc n = omega arith in
+    ap (λ (xs : List ℕ). a ∷ xs) (range_more (a + 1) n ∙ ap (λ (k : ℕ). range_with_len (a + 1) n ++ k ∷ []) e)
+
+-- So many items pass the test, and no more than so many.
+pub record Counted {X : Type 0} (p : X → Bool) (xs : List X) (count most : ℕ) : Type 0 where
+  pub is : count ≡ length (filter p xs)
+  pub low : count ≤ most
+
+filter_one : {X : Type 0} (p : X → Bool) (x : X) (t : Bool) → p x ≡ t → filter p (x ∷ []) ≡ cond t (x ∷ []) []
+filter_one p x true e = rw e refl
+filter_one p x false e = rw e refl
+
+pub filter_more : {X : Type 0} (p : X → Bool) (xs : List X) (x : X) (t : Bool) → p x ≡ t → filter p (xs ++ x ∷ []) ≡ filter p xs ++ cond t (x ∷ []) []
+filter_more p xs x t e = filter-append p xs (x ∷ []) ∙ ap (λ (ys : List _). filter p xs ++ ys) (filter_one p x t e)
+
+pub counted_more : {X : Type 0} (p : X → Bool) (xs ys : List X) (x : X) (count most : ℕ) → ys ≡ xs ++ x ∷ [] → p x ≡ true → Counted p xs count most → Counted p ys (count + 1) (most + 1)
+counted_more p xs ys x count most same e h = record {
+  is =
+      let more = ap (λ (zs : List _). length (filter p zs)) same in
+      let split = ap length (filter_more p xs x true e) in
+      let size = length-append (filter p xs) (x ∷ []) in
+      let is = h.is in
+      omega arith;
+  low = let low = h.low in omega arith;
+}
+
+pub counted_same : {X : Type 0} (p : X → Bool) (xs ys : List X) (x : X) (count most : ℕ) → ys ≡ xs ++ x ∷ [] → p x ≡ false → Counted p xs count most → Counted p ys count (most + 1)
+counted_same p xs ys x count most same e h = record {
+  is =
+      let more = ap (λ (zs : List _). length (filter p zs)) same in
+      let split = ap length (filter_more p xs x false e) in
+      let size = length-append (filter p xs) [] in
+      let is = h.is in
+      omega arith;
+  low = let low = h.low in omega arith;
+}
+
+-- A delta with edges, and then with more.
+pub edges_more : (first second : List NewEdge) (delta : PlainDelta) → with_edges second (with_edges first delta) ≡ with_edges (first ++ second) delta
+edges_more first second delta = ap (λ (es : List NewEdge). record delta { edges = es }) (append_assoc delta.edges first second)
+
+pub edges_none : (delta : PlainDelta) → delta ≡ with_edges [] delta
+edges_none delta = ap (λ (es : List NewEdge). record delta { edges = es }) (sym (append-nil delta.edges))
+
+-- The edges of one parameter more.
+pub linked_more : (graph : PlainGraph) (out : ℕ) (xs : List ℕ) (x : ℕ) → linked graph out (xs ++ x ∷ []) ≡ linked graph out xs ++ parameter_edges graph x (out + length xs)
+linked_more graph out [] x =
+    let e : out ≡ out + 0 = omega arith in
+    append-nil (parameter_edges graph x out) ∙ ap (parameter_edges graph x) e
+linked_more graph out (first ∷ xs) x =
+    let e : out + 1 + length xs ≡ out + suc (length xs) = omega arith in
+    ap (λ (es : List NewEdge). parameter_edges graph first out ++ es) (linked_more graph (out + 1) xs x ∙ ap (λ (k : ℕ). linked graph (out + 1) xs ++ parameter_edges graph x k) e)
+    ∙ sym (append_assoc (parameter_edges graph first out) (linked graph (out + 1) xs) (parameter_edges graph x (out + suc (length xs))))
+
+-- A node more in a row.
+pub row_more : (old new : Planting) (node : PlainNode) (nodes : List PlainNode) → Plants old new (leaf Plain node) → IsRow old nodes → IsRow new (nodes ++ node ∷ [])
+unfolding with_forest nodes_of edges_of
+row_more old new node nodes planted row = record {
+  delta =
+      planted.delta
+      ∙ (ap (λ (open : List ℕ). with_forest (innermost open) (leaf Plain node) old.delta) row.opened ∙ ap (with_forest (innermost []) (leaf Plain node)) row.delta);
+  opened = planted.opened ∙ row.opened;
+}

@@ -1,0 +1,8 @@
+pub mod Units
+pub mod UnitNodes
+pub mod UnitEdges
+pub mod UnitDeltas
+pub mod Chains
+pub mod Adding
+pub mod Ready
+pub mod PassLaws
