@@ -6,3 +6,4 @@ pub mod Counts
 pub mod Steps
 pub mod Chaining
 pub mod Bodies
+pub mod Places
