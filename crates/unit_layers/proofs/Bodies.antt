@@ -14,7 +14,7 @@ use Rattle.graph_parts.specs.NodesAbove.{is_labelled}
 use Rattle.graph_parts.proofs.AboveList.{labelled_is, labelled_test}
 use Rattle.graph_parts.proofs.KindRank.{kind_from_rank}
 use Rattle.graph_parts.proofs.Tree.{child_at}
-use Rattle.unit_layers.specs.UnitEdges.{has_body}
+use Rattle.unit_rules.specs.UnitEdges.{has_body}
 
 -- Where there is no least node with a property, none has it.
 below : (P : ℕ → Type 0) → ((n : ℕ) → ¬ IsLeast P n) → (bound n : ℕ) → n < bound → ¬ P n

@@ -9,7 +9,7 @@ use Rattle.cpg_schema.specs.Graph.{PlainGraph}
 use Rattle.graph_parts.specs.NodesAbove.{root_at}
 use Rattle.unit_layers.specs.declared.trees.TheConstants.{NO_NODE}
 use Rattle.unit_layers.specs.Chains.{IsChain}
-use Rattle.unit_layers.specs.Units.{members}
+use Rattle.unit_rules.specs.Units.{members}
 
 -- The nodes from this one on of whose tree the root is this.
 abbrev pub from_on : PlainGraph → ℕ → ℕ → List ℕ

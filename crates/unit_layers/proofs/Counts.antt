@@ -11,7 +11,7 @@ use Rattle.graph_parts.specs.NodesAbove.{parent_in}
 use Rattle.graph_parts.proofs.Depth.{ends_of, found}
 use Rattle.graph_parts.proofs.KindRank.{kind_from_rank}
 use Rattle.graph_parts.proofs.Tree.{child_at}
-use Rattle.unit_layers.specs.Units.{all_nodes, is_global, is_inner, is_missing, is_unit, units}
+use Rattle.unit_rules.specs.Units.{all_nodes, is_global, is_inner, is_missing, is_unit, units}
 
 step : (p : ℕ → Bool) (x : ℕ) (xs : List ℕ) (t : Bool) → p x ≡ t → length (filter p (x ∷ xs)) ≡ cond t (suc (length (filter p xs))) (length (filter p xs))
 step p x xs true e = rw e refl

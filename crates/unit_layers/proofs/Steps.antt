@@ -1,7 +1,7 @@
 -- Steps of loops over lists: what is counted, kept and joined with one item more.
-use Rattle.std.proofs.Common.{◌≡◌, ℕ, zero, suc, ◌+◌, ◌<◌, ◌≤◌, cond, Bool, true, false, List, [], ◌∷◌, ◌++◌, filter, length, map, take, get_or, refl, ap, sym, subst, ◌∙◌, arith, append-nil, append_assoc}
+use Rattle.std.proofs.Common.{◌≡◌, ℕ, zero, suc, ◌+◌, ◌<◌, ◌≤◌, cond, Bool, true, false, List, [], ◌∷◌, ◌++◌, filter, length, map, take, get_or, slice_index, refl, ap, sym, subst, ◌∙◌, arith, append-nil, append_assoc}
 use Rattle.std.specs.List.{flat_map, range_with_len}
-use Rattle.std.proofs.lemmas.List.{length-append}
+use Rattle.std.proofs.lemmas.List.{length-append, length-take-le, take_more}
 use Rattle.std.proofs.lemmas.List.Elements.{filter-append}
 use Rattle.cpg_schema.specs.Graph.{PlainGraph}
 use Rattle.cpg_schema.specs.Deltas.{NewEdge, PlainDelta}
@@ -11,7 +11,7 @@ use Rattle.graph_forest.specs.Planting.{Planting, Plants, innermost}
 use Rattle.cpg_schema.specs.Graph.{PlainNode}
 use Rattle.unit_layers.specs.Adding.{with_edges}
 use Rattle.unit_layers.specs.Ready.{IsRow}
-use Rattle.unit_layers.specs.UnitEdges.{linked, parameter_edges}
+use Rattle.unit_rules.specs.UnitEdges.{linked, parameter_edges}
 
 -- The range with one number more.
 pub range_more : (a n : ℕ) → range_with_len a (n + 1) ≡ range_with_len a n ++ (a + n) ∷ []
@@ -71,12 +71,26 @@ linked_more graph out (first ∷ xs) x =
     ap (λ (es : List NewEdge). parameter_edges graph first out ++ es) (linked_more graph (out + 1) xs x ∙ ap (λ (k : ℕ). linked graph (out + 1) xs ++ parameter_edges graph x k) e)
     ∙ sym (append_assoc (parameter_edges graph first out) (linked graph (out + 1) xs) (parameter_edges graph x (out + suc (length xs))))
 
+pub joined_parameter : (graph : PlainGraph) (xs : List ℕ) (k out : ℕ) (old middle new : PlainDelta) → k < length xs → out ≡ 2 + k → new ≡ with_edges (parameter_edges graph (slice_index xs k) out) middle →
+    middle ≡ with_edges (linked graph 2 (take k xs)) old → new ≡ with_edges (linked graph 2 (take (k + 1) xs)) old
+joined_parameter graph xs k out old middle new low is last before =
+    let x = slice_index xs k in
+    let more : linked graph 2 (take (k + 1) xs) ≡ linked graph 2 (take k xs) ++ parameter_edges graph x (2 + length (take k xs)) =
+    ap (linked graph 2) (take_more xs k 0 low) ∙ linked_more graph 2 (take k xs) x in
+    let size = length-take-le k xs (omega arith) in
+    let count : 2 + length (take k xs) ≡ out = omega arith in
+    let whole : linked graph 2 (take (k + 1) xs) ≡ linked graph 2 (take k xs) ++ parameter_edges graph x out =
+    more ∙ ap (λ (n : ℕ). linked graph 2 (take k xs) ++ parameter_edges graph x n) count in
+    last
+    ∙ (ap (with_edges (parameter_edges graph x out)) before
+    ∙ (edges_more (linked graph 2 (take k xs)) (parameter_edges graph x out) old ∙ ap (λ (es : List NewEdge). with_edges es old) (sym whole)))
+
 -- A node more in a row.
 pub row_more : (old new : Planting) (node : PlainNode) (nodes : List PlainNode) → Plants old new (leaf Plain node) → IsRow old nodes → IsRow new (nodes ++ node ∷ [])
 unfolding with_forest nodes_of edges_of
 row_more old new node nodes planted row = record {
   delta =
       planted.delta
-      ∙ (ap (λ (open : List ℕ). with_forest (innermost open) (leaf Plain node) old.delta) row.opened ∙ ap (with_forest (innermost []) (leaf Plain node)) row.delta);
+      ∙ (ap (λ (opened : List ℕ). with_forest (innermost opened) (leaf Plain node) old.delta) row.opened ∙ ap (with_forest (innermost []) (leaf Plain node)) row.delta);
   opened = planted.opened ∙ row.opened;
 }

@@ -3,7 +3,7 @@ use Rattle.std.specs.Prelude.{ℕ, ◌≡◌, ◌<◌, List, [], ◌∷◌, leng
 use Rattle.cpg_schema.specs.Graph.{PlainGraph}
 use Rattle.unit_layers.specs.declared.trees.TheConstants.{NO_NODE}
 use Rattle.unit_layers.specs.declared.trees.Trees.{Trees}
-use Rattle.unit_layers.specs.Units.{members}
+use Rattle.unit_rules.specs.Units.{members}
 
 -- These numbers are chained from the head on.
 abbrev pub IsChain : List ℕ → ℕ → List ℕ → Type 0

@@ -1,7 +1,3 @@
-pub mod Units
-pub mod UnitNodes
-pub mod UnitEdges
-pub mod UnitDeltas
 pub mod Chains
 pub mod Adding
 pub mod Ready

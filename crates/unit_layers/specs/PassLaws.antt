@@ -5,9 +5,9 @@ use Rattle.cpg_schema.specs.Graph.{PlainGraph}
 use Rattle.cpg_schema.specs.Fitting.{IsGraph, PartsFit}
 use Rattle.cpg_schema.specs.Sequence.{seq}
 use Rattle.cpg_schema.specs.Shape.{IsShaped}
-use Rattle.unit_layers.specs.UnitDeltas.{part_delta, unit_parts}
-use Rattle.unit_layers.proofs.Fits.{units_fit}
-use Rattle.unit_layers.proofs.Shapes.{units_shape}
+use Rattle.unit_rules.specs.UnitDeltas.{part_delta, unit_parts}
+use Rattle.unit_rules.proofs.Fits.{units_fit}
+use Rattle.unit_rules.proofs.Shapes.{units_shape}
 
 pub parts_fit : (start : PlainGraph) → IsGraph start → IsShaped start →
     PartsFit start (part_delta start) (unit_parts start)

@@ -7,7 +7,7 @@ use Rattle.graph_parts.specs.Places.{ArePlacesOf}
 use Rattle.graph_forest.specs.Planting.{Planting}
 use Rattle.unit_layers.specs.declared.ready.UnitsReady.{UnitsReady}
 use Rattle.unit_layers.specs.Chains.{AreTreesOf}
-use Rattle.unit_layers.specs.Units.{units}
+use Rattle.unit_rules.specs.Units.{units}
 
 -- The index, the places, the units and the trees are those of this graph.
 pub record IsReady (graph : StoredGraph) (ready : UnitsReady) : Type 0 where

@@ -4,7 +4,7 @@ ghost use Rattle.std.specs.Prelude.{◌≡◌, ◌<◌, filter, length, IfOk};
 ghost use Rattle.cpg_schema.specs.Shape.{IsShaped};
 ghost use Rattle.graph_store.specs.Stored.{plain};
 ghost use Rattle.edge_index.specs.Indexed.{IsIndexOf};
-ghost use Rattle.unit_layers.specs.Units.{all_nodes, is_global, is_inner, is_unit, units};
+ghost use Rattle.unit_rules.specs.Units.{all_nodes, is_global, is_inner, is_unit, units};
 
 use cpg_schema::{EdgeKind, Key, Label};
 use edge_index::Index;
@@ -42,7 +42,7 @@ fn is_unit(graph: &Graph, index: &Index, node: u32) -> bool
 /// The units, rising.
 pub(crate) fn units(alloc: Global, graph: &Graph, index: &Index) -> Result<Vec<u32>, AllocError>
     requires index { IsIndexOf graph.now index.now }
-    ensures { IfOk result (λ units. units.items ≡ units (plain graph.now)) }
+    ensures { IfOk result (λ found. found.items ≡ units (plain graph.now)) }
 {
     let mut found = Vec::new(alloc);
     for node in 0..graph.len() {

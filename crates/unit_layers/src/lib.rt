@@ -2,7 +2,6 @@
 #![tactic(auto)]
 
 mod global;
-pub mod laws;
 mod pass;
 mod ready;
 mod trees;

@@ -17,7 +17,7 @@ impl Pass for UnitPass {
 
     ghost use Rattle.cpg_schema.specs.Shape.{IsShaped};
     ghost use Rattle.unit_layers.specs.Ready.{IsReady};
-    ghost use Rattle.unit_layers.specs.UnitDeltas.{part_delta, unit_parts};
+    ghost use Rattle.unit_rules.specs.UnitDeltas.{part_delta, unit_parts};
     ghost use Rattle.unit_layers.specs.PassLaws.{parts_fit, parts_shape};
 
     ghost takes = { λ _ graph. IsShaped graph };

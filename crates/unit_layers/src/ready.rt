@@ -4,8 +4,8 @@ ghost use Rattle.std.specs.Prelude.{◌≡◌, ◌<◌, suc, length, IfOk};
 ghost use Rattle.cpg_schema.specs.Shape.{IsShaped};
 ghost use Rattle.graph_store.specs.Stored.{plain};
 ghost use Rattle.unit_layers.specs.Ready.{IsReady};
-ghost use Rattle.unit_layers.specs.UnitDeltas.{part_delta};
-ghost use Rattle.unit_layers.specs.Units.{units};
+ghost use Rattle.unit_rules.specs.UnitDeltas.{part_delta};
+ghost use Rattle.unit_rules.specs.Units.{units};
 
 use crate::global::units;
 use crate::trees::Trees;

@@ -5,7 +5,7 @@ ghost use Rattle.cpg_schema.specs.Shape.{IsShaped};
 ghost use Rattle.graph_store.specs.Stored.{plain};
 ghost use Rattle.graph_parts.specs.Places.{ArePlacesOf};
 ghost use Rattle.unit_layers.specs.Chains.{AreTreesOf};
-ghost use Rattle.unit_layers.specs.Units.{members};
+ghost use Rattle.unit_rules.specs.Units.{members};
 
 use graph_parts::Places;
 use graph_store::Graph;
@@ -53,7 +53,7 @@ impl Trees {
     ) -> Result<Vec<u32>, AllocError>
         requires trees { AreTreesOf (plain graph.now) self.now }
         requires inside { root < length graph.now.nodes }
-        ensures { IfOk result (λ members. members.items ≡ members (plain graph.now) root) }
+        ensures { IfOk result (λ found. found.items ≡ members (plain graph.now) root) }
     {
         let mut members = Vec::new(alloc);
         let mut node = self.first[root as usize];

@@ -8,12 +8,13 @@ ghost use Rattle.graph_store.specs.Stored.{plain};
 ghost use Rattle.edge_index.specs.Indexed.{IsIndexOf};
 ghost use Rattle.graph_parts.specs.Places.{ArePlacesOf};
 ghost use Rattle.unit_layers.specs.Adding.{with_edges};
-ghost use Rattle.unit_layers.specs.UnitEdges.{edge_between, from_source, has_body, in_file};
-ghost use Rattle.unit_layers.specs.UnitEdges.{linked, member_edges, parameter_edges, top_edges};
+ghost use Rattle.unit_rules.specs.UnitEdges.{edge_between, from_source, has_body, in_file};
+ghost use Rattle.unit_rules.specs.UnitEdges.{linked, member_edges, parameter_edges, top_edges};
 
 use cpg_schema::{EdgeKind, End, Label};
 use edge_index::Index;
 use graph_parts::{Places, child_of, parent_of};
+use graph_store::laws::law_stored;
 use graph_store::{Delta, Graph};
 use std::alloc::AllocError;
 
@@ -64,6 +65,7 @@ fn join_member(
     requires file { 0 < length delta.old.nodes }
     ensures { OnOk result (delta.new ≡ with_edges (member_edges (plain graph.now) node) delta.old) }
 {
+    law_stored(graph);
     match graph.node(node) {
         Label::Method => {
             if has_body(graph, index, node) {

@@ -7,8 +7,8 @@ ghost use Rattle.cpg_schema.specs.Graph.{PlainNode};
 ghost use Rattle.graph_store.specs.Stored.{plain};
 ghost use Rattle.graph_forest.specs.Nodes.{plain_node};
 ghost use Rattle.unit_layers.specs.Ready.{IsRow};
-ghost use Rattle.unit_layers.specs.UnitNodes.{file_node, meta_data, namespace_node, out_node};
-ghost use Rattle.unit_layers.specs.Units.{labelled};
+ghost use Rattle.unit_rules.specs.UnitNodes.{file_node, meta_data, namespace_node, out_node};
+ghost use Rattle.unit_rules.specs.Units.{labelled};
 
 use crate::global::GLOBAL_NAME;
 use cpg_schema::{Key, Label};

@@ -1,6 +1,6 @@
 use Rattle.std.specs.List.{range_with_len}
 use Rattle.graph_store.specs.Stored.{plain}
-use Rattle.unit_layers.specs.Units.{is_global}
+use Rattle.unit_rules.specs.Units.{is_global}
 use Rattle.unit_layers.proofs.Steps.{Counted}
 use Rattle.unit_layers.proofs.global.count_global.Given as goal
 

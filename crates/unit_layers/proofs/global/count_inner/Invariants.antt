@@ -1,6 +1,6 @@
 use Rattle.std.proofs.Common.{take}
 use Rattle.graph_store.specs.Stored.{plain}
-use Rattle.unit_layers.specs.Units.{is_inner}
+use Rattle.unit_rules.specs.Units.{is_inner}
 use Rattle.unit_layers.proofs.Steps.{Counted}
 use Rattle.unit_layers.proofs.global.count_inner.Given as goal
 

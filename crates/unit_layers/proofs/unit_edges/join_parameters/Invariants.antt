@@ -1,7 +1,7 @@
 use Rattle.std.proofs.Common.{◌≡◌, ◌+◌, take}
 use Rattle.graph_store.specs.Stored.{plain}
 use Rattle.unit_layers.specs.Adding.{with_edges}
-use Rattle.unit_layers.specs.UnitEdges.{linked}
+use Rattle.unit_rules.specs.UnitEdges.{linked}
 use Rattle.unit_layers.proofs.unit_edges.join_parameters.Given as goal
 
 abbrev pub invariant-loop-parameter : goal.invariant-loop-parameter

@@ -1,6 +1,6 @@
 use Rattle.std.proofs.Common.{◌-◌, length}
 use Rattle.graph_store.specs.Stored.{plain}
-use Rattle.unit_layers.specs.Units.{members}
+use Rattle.unit_rules.specs.Units.{members}
 use Rattle.unit_layers.proofs.Chaining.{Walked}
 use Rattle.unit_layers.proofs.trees.Trees.members.Given as goal
 

@@ -1,6 +1,6 @@
-use Rattle.unit_layers.proofs.Fits.{units_fit}
-use Rattle.unit_layers.proofs.Shapes.{units_shape}
-use Rattle.unit_layers.proofs.laws.law_units.Goals as goal
+use Rattle.unit_rules.proofs.Fits.{units_fit}
+use Rattle.unit_rules.proofs.Shapes.{units_shape}
+use Rattle.unit_rules.proofs.laws.law_units.Goals as goal
 
 pub returns-clause-fit : goal.returns-clause-fit
 returns-clause-fit c = λ start is_graph shaped. units_fit start shaped is_graph

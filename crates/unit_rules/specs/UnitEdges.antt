@@ -13,7 +13,7 @@ use Rattle.cpg_schema.specs.Names.{kind_rank}
 use Rattle.cpg_schema.specs.Graph.{PlainGraph}
 use Rattle.cpg_schema.specs.Deltas.{NewEdge}
 use Rattle.graph_parts.specs.NodesAbove.{is_labelled, method_at, parent_at}
-use Rattle.unit_layers.specs.Units.{label_at}
+use Rattle.unit_rules.specs.Units.{label_at}
 
 -- An edge without a variable.
 abbrev pub edge_between : End → EdgeKind → End → NewEdge

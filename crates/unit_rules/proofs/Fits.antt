@@ -26,11 +26,11 @@ use Rattle.graph_parts.specs.NodesAbove.{is_labelled, method_at, parent_at}
 use Rattle.graph_parts.proofs.AboveList.{labelled_is, method_at_is}
 use Rattle.graph_parts.proofs.Depth.{found}
 use Rattle.graph_parts.proofs.Tree.{child_at}
-use Rattle.unit_layers.specs.Units.{all_nodes, is_global, is_global_name, is_missing, is_unit, label_at, members, name_at, units}
-use Rattle.unit_layers.specs.UnitNodes.{file_node, namespace_node, out_node}
-use Rattle.unit_layers.specs.UnitEdges.{edge_between, from_source, has_body, in_file, in_method, label_edges, linked, member_edges, out_edges, parameter_edges, top_edges}
-use Rattle.unit_layers.specs.UnitDeltas.{parameters, part_delta, unit_delta, unit_parts}
-use Rattle.unit_layers.proofs.Facts.{unit_passes}
+use Rattle.unit_rules.specs.Units.{all_nodes, is_global, is_global_name, is_missing, is_unit, label_at, members, name_at, units}
+use Rattle.unit_rules.specs.UnitNodes.{file_node, namespace_node, out_node}
+use Rattle.unit_rules.specs.UnitEdges.{edge_between, from_source, has_body, in_file, in_method, label_edges, linked, member_edges, out_edges, parameter_edges, top_edges}
+use Rattle.unit_rules.specs.UnitDeltas.{parameters, part_delta, unit_delta, unit_parts}
+use Rattle.unit_rules.proofs.Facts.{unit_passes}
 
 -- The node of an end: one of the graph, or a new one.
 node_of : PlainGraph → List PlainNode → End → Option PlainNode

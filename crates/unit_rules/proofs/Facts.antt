@@ -19,8 +19,8 @@ use Rattle.cpg_schema.specs.Shape.{IsAstEdgeAt}
 use Rattle.graph_parts.specs.NodesAbove.{is_labelled, method_at, parent_at, root_at}
 use Rattle.graph_parts.proofs.Depth.{ends_of, found, missing}
 use Rattle.graph_parts.proofs.Tree.{child_at}
-use Rattle.unit_layers.specs.Units.{all_nodes, is_global, is_missing, is_unit, label_at, members, units}
-use Rattle.unit_layers.specs.UnitEdges.{edge_between, from_source, has_body, in_file, in_method, label_edges, member_edges}
+use Rattle.unit_rules.specs.Units.{all_nodes, is_global, is_missing, is_unit, label_at, members, units}
+use Rattle.unit_rules.specs.UnitEdges.{edge_between, from_source, has_body, in_file, in_method, label_edges, member_edges}
 
 pub low_nodes : (graph : PlainGraph) → All (λ (node : ℕ). node < length graph.nodes) (all_nodes graph)
 low_nodes graph k d low =

@@ -7,7 +7,7 @@ use Rattle.cpg_schema.specs.declared.label.Label.TheVariants.{MetaData, File, Na
 use Rattle.cpg_schema.specs.declared.label.Label.TheVariants.{MethodParameterOut}
 use Rattle.cpg_schema.specs.Graph.{PlainNode, PlainGraph, bare_node}
 use Rattle.cpg_schema.specs.Properties.{number_of, text_of}
-use Rattle.unit_layers.specs.Units.{global_name}
+use Rattle.unit_rules.specs.Units.{global_name}
 
 -- The META_DATA: NAME=`C`.
 abbrev pub meta_data : PlainNode

@@ -4,9 +4,9 @@ use Rattle.std.specs.Prelude.{slice_index}
 use Rattle.cpg_schema.specs.declared.label.Label.TheVariants.{MethodParameterIn}
 use Rattle.cpg_schema.specs.Graph.{PlainGraph}
 use Rattle.cpg_schema.specs.Deltas.{PlainDelta}
-use Rattle.unit_layers.specs.Units.{labelled, members, units}
-use Rattle.unit_layers.specs.UnitNodes.{file_node, meta_data, namespace_node, out_node}
-use Rattle.unit_layers.specs.UnitEdges.{linked, member_edges, top_edges}
+use Rattle.unit_rules.specs.Units.{labelled, members, units}
+use Rattle.unit_rules.specs.UnitNodes.{file_node, meta_data, namespace_node, out_node}
+use Rattle.unit_rules.specs.UnitEdges.{linked, member_edges, top_edges}
 
 -- The parameters of a unit: the METHOD_PARAMETER_INs among its nodes, rising.
 abbrev pub parameters : PlainGraph → ℕ → List ℕ

@@ -15,12 +15,12 @@ use Rattle.graph_delta.proofs.Sequencing.{seq_steps}
 use Rattle.graph_parts.specs.NodesAbove.{parent_at}
 use Rattle.graph_parts.proofs.Depth.{ends_of}
 use Rattle.graph_parts.proofs.Tree.{child_at}
-use Rattle.unit_layers.specs.Units.{members, units}
-use Rattle.unit_layers.specs.UnitNodes.{file_node, namespace_node, out_node}
-use Rattle.unit_layers.specs.UnitEdges.{edge_between, linked, member_edges, out_edges, parameter_edges, top_edges}
-use Rattle.unit_layers.specs.UnitDeltas.{parameters, part_delta, unit_delta, unit_parts}
-use Rattle.unit_layers.proofs.Hanging.{Hangs, IsBare, IsForest, IsGrowing, IsTop, forest_of, growing_hang, growing_other, growing_others, none_above_top, none_below_bare, shaped_of}
-use Rattle.unit_layers.proofs.Facts.{IsOther, link_other, members_other, parent_low, source_other, unit_low, unit_top, units_rise}
+use Rattle.unit_rules.specs.Units.{members, units}
+use Rattle.unit_rules.specs.UnitNodes.{file_node, namespace_node, out_node}
+use Rattle.unit_rules.specs.UnitEdges.{edge_between, linked, member_edges, out_edges, parameter_edges, top_edges}
+use Rattle.unit_rules.specs.UnitDeltas.{parameters, part_delta, unit_delta, unit_parts}
+use Rattle.unit_rules.proofs.Hanging.{Hangs, IsBare, IsForest, IsGrowing, IsTop, forest_of, growing_hang, growing_other, growing_others, none_above_top, none_below_bare, shaped_of}
+use Rattle.unit_rules.proofs.Facts.{IsOther, link_other, members_other, parent_low, source_other, unit_low, unit_top, units_rise}
 
 -- A unit of a part that is not there yet, after so many parts.
 pub record IsLeft (start : PlainGraph) (part node : ℕ) : Type 0 where

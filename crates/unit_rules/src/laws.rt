@@ -6,7 +6,7 @@ ghost use Rattle.cpg_schema.specs.Graph.{PlainGraph};
 ghost use Rattle.cpg_schema.specs.Fitting.{IsGraph, PartsFit};
 ghost use Rattle.cpg_schema.specs.Sequence.{seq};
 ghost use Rattle.cpg_schema.specs.Shape.{IsShaped};
-ghost use Rattle.unit_layers.specs.UnitDeltas.{part_delta, unit_parts};
+ghost use Rattle.unit_rules.specs.UnitDeltas.{part_delta, unit_parts};
 
 /// The deltas of all parts fit a well-formed shaped graph, and the graph with them is shaped.
 pub fn law_units()
