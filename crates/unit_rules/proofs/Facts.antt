@@ -1,6 +1,6 @@
 -- What is so of the units of a graph, of its nodes and of the edges that they add.
-use Rattle.std.proofs.Common.{◌≡◌, ℕ, zero, suc, ◌+◌, ◌-◌, ◌<◌, ◌≤◌, ◌&&◌, Bool, true, false, List, [], ◌∷◌, ◌++◌, Option, Some, None, filter, length, map, get_or, slice_get, slice_index, if◌then◌else◌, refl, ap, sym, subst, ◌∙◌, arith}
-use Rattle.std.specs.List.{All, flat_map, range_with_len}
+use Rattle.std.proofs.Common.{◌≡◌, ℕ, zero, suc, ◌+◌, ◌-◌, ◌<◌, Bool, true, false, List, [], ◌∷◌, ◌++◌, Option, Some, None, length, slice_index, if◌then◌else◌, refl, ap, sym, subst, arith}
+use Rattle.std.specs.List.{All, flat_map}
 use Rattle.std.specs.List.Sorted.{IsStrictlyIncreasing}
 use Rattle.std.proofs.lemmas.Bool.{and_parts}
 use Rattle.std.proofs.lemmas.List.FromFn.{get_or-range_with_len, length-range_with_len}
@@ -12,14 +12,14 @@ use Rattle.cpg_schema.specs.declared.edge_kind.EdgeKind.{EdgeKind}
 use Rattle.cpg_schema.specs.declared.edge_kind.EdgeKind.TheVariants.{Ast, SourceFile, Contains, ParameterLink}
 use Rattle.cpg_schema.specs.declared.end.End.TheVariants as end
 use Rattle.cpg_schema.specs.Names.{kind_rank}
-use Rattle.cpg_schema.specs.Graph.{PlainNode, PlainGraph}
+use Rattle.cpg_schema.specs.Graph.{PlainGraph}
 use Rattle.cpg_schema.specs.Deltas.{NewEdge}
 use Rattle.cpg_schema.specs.Fitting.{IsGraph}
 use Rattle.cpg_schema.specs.Shape.{IsAstEdgeAt}
-use Rattle.graph_parts.specs.NodesAbove.{is_labelled, method_at, parent_at, root_at}
+use Rattle.graph_parts.specs.NodesAbove.{method_at, parent_at}
 use Rattle.graph_parts.proofs.Depth.{ends_of, found, missing}
 use Rattle.graph_parts.proofs.Tree.{child_at}
-use Rattle.unit_rules.specs.Units.{all_nodes, is_global, is_missing, is_unit, label_at, members, units}
+use Rattle.unit_rules.specs.Units.{all_nodes, is_global, is_missing, is_unit, label_at, units}
 use Rattle.unit_rules.specs.UnitEdges.{edge_between, from_source, has_body, in_file, in_method, label_edges, member_edges}
 
 pub low_nodes : (graph : PlainGraph) → All (λ (node : ℕ). node < length graph.nodes) (all_nodes graph)

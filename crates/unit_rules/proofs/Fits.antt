@@ -1,5 +1,5 @@
 -- The deltas of the parts fit the graph as it is at the start.
-use Rattle.std.proofs.Common.{◌≡◌, ℕ, zero, suc, ◌+◌, ◌<◌, ◌&&◌, IsTrue, Bool, true, false, if◌then◌else◌, List, [], ◌∷◌, ◌++◌, Option, Some, None, filter, length, map, get_or, slice_get, slice_index, inr, refl, ap, sym, subst, ◌∙◌, arith}
+use Rattle.std.proofs.Common.{◌≡◌, ℕ, zero, suc, ◌+◌, ◌<◌, IsTrue, Bool, true, false, if◌then◌else◌, List, [], ◌∷◌, ◌++◌, Option, Some, None, length, map, get_or, slice_get, slice_index, inr, refl, ap, sym, subst, ◌∙◌, arith}
 use Rattle.std.specs.Option.{option_map}
 use Rattle.std.specs.List.{All, flat_map}
 use Rattle.std.proofs.lemmas.Bool.{and_parts}
@@ -26,7 +26,7 @@ use Rattle.graph_parts.specs.NodesAbove.{is_labelled, method_at, parent_at}
 use Rattle.graph_parts.proofs.AboveList.{labelled_is, method_at_is}
 use Rattle.graph_parts.proofs.Depth.{found}
 use Rattle.graph_parts.proofs.Tree.{child_at}
-use Rattle.unit_rules.specs.Units.{all_nodes, is_global, is_global_name, is_missing, is_unit, label_at, members, name_at, units}
+use Rattle.unit_rules.specs.Units.{is_global, is_global_name, is_missing, is_unit, label_at, members, name_at, units}
 use Rattle.unit_rules.specs.UnitNodes.{file_node, namespace_node, out_node}
 use Rattle.unit_rules.specs.UnitEdges.{edge_between, from_source, has_body, in_file, in_method, label_edges, linked, member_edges, out_edges, parameter_edges, top_edges}
 use Rattle.unit_rules.specs.UnitDeltas.{parameters, part_delta, unit_delta, unit_parts}

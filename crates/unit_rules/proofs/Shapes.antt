@@ -1,13 +1,13 @@
 -- The parts of the pass keep a graph shaped.
 use Rattle.std.proofs.Common.{◌≡◌, ℕ, zero, suc, ◌+◌, ◌<◌, ◌≤◌, ◌⊎◌, inl, inr, List, [], ◌∷◌, ◌++◌, Option, Some, None, Ok, length, map, slice_index, refl, ap, sym, subst, ◌∙◌, arith, append-nil, append_assoc}
-use Rattle.std.specs.List.{All, flat_map}
+use Rattle.std.specs.List.{flat_map}
 use Rattle.std.proofs.lemmas.List.{length-append, length-map, map-append}
 use Rattle.std.proofs.lemmas.List.Elements.{All-map}
 use Rattle.cpg_schema.specs.declared.caps.Caps.{Caps}
 use Rattle.cpg_schema.specs.declared.edge_kind.EdgeKind.TheVariants.{Ast, ParameterLink, SourceFile}
 use Rattle.cpg_schema.specs.declared.end.End.TheVariants.{Old, New}
-use Rattle.cpg_schema.specs.Graph.{PlainNode, PlainEdge, PlainGraph}
-use Rattle.cpg_schema.specs.Deltas.{NewEdge, PlainDelta, applied, added_edge}
+use Rattle.cpg_schema.specs.Graph.{PlainEdge, PlainGraph}
+use Rattle.cpg_schema.specs.Deltas.{applied, added_edge}
 use Rattle.cpg_schema.specs.Fitting.{IsGraph}
 use Rattle.cpg_schema.specs.Sequence.{seq}
 use Rattle.cpg_schema.specs.Shape.{IsAstEdgeAt, IsShaped}
@@ -16,11 +16,11 @@ use Rattle.graph_parts.specs.NodesAbove.{parent_at}
 use Rattle.graph_parts.proofs.Depth.{ends_of}
 use Rattle.graph_parts.proofs.Tree.{child_at}
 use Rattle.unit_rules.specs.Units.{members, units}
-use Rattle.unit_rules.specs.UnitNodes.{file_node, namespace_node, out_node}
+use Rattle.unit_rules.specs.UnitNodes.{out_node}
 use Rattle.unit_rules.specs.UnitEdges.{edge_between, linked, member_edges, out_edges, parameter_edges, top_edges}
 use Rattle.unit_rules.specs.UnitDeltas.{parameters, part_delta, unit_delta, unit_parts}
-use Rattle.unit_rules.proofs.Hanging.{Hangs, IsBare, IsForest, IsGrowing, IsTop, forest_of, growing_hang, growing_other, growing_others, none_above_top, none_below_bare, shaped_of}
-use Rattle.unit_rules.proofs.Facts.{IsOther, link_other, members_other, parent_low, source_other, unit_low, unit_top, units_rise}
+use Rattle.unit_rules.proofs.Hanging.{IsGrowing, IsTop, forest_of, growing_hang, growing_other, growing_others, none_above_top, none_below_bare, shaped_of}
+use Rattle.unit_rules.proofs.Facts.{link_other, members_other, parent_low, source_other, unit_low, unit_top, units_rise}
 
 -- A unit of a part that is not there yet, after so many parts.
 pub record IsLeft (start : PlainGraph) (part node : ℕ) : Type 0 where

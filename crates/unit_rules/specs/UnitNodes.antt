@@ -1,5 +1,5 @@
 -- The nodes that the units add (ours).
-use Rattle.std.specs.Prelude.{ℕ, List, Option, Some, None, codes, slice_get}
+use Rattle.std.specs.Prelude.{ℕ, Some, codes, slice_get}
 use Rattle.std.specs.Option.{option_and_then}
 use Rattle.cpg_schema.specs.declared.key.Key.TheVariants.{Filename, LineNumber, Name, Order}
 use Rattle.cpg_schema.specs.declared.key.Key.TheVariants.{TypeFullName}
