@@ -17,3 +17,5 @@ mod printed_lines;
 mod stored_graphs;
 #[cfg(test)]
 mod syntax_layers;
+#[cfg(test)]
+mod unit_runs;

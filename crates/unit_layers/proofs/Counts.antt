@@ -25,6 +25,15 @@ same_count p q same (x ∷ xs) = by (p x) refl (same_count p q same xs)
     by true e rest = step p x xs true e ∙ (ap suc rest ∙ sym (step q x xs true (same x ∙ e)))
     by false e rest = step p x xs false e ∙ (rest ∙ sym (step q x xs false (same x ∙ e)))
 
+-- No more pass than there are.
+pub few_pass : (p : ℕ → Bool) (xs : List ℕ) → length (filter p xs) ≤ length xs
+few_pass p [] = omega arith
+few_pass p (x ∷ xs) = by (p x) refl (few_pass p xs)
+  where
+    by : (t : Bool) → p x ≡ t → length (filter p xs) ≤ length xs → length (filter p (x ∷ xs)) ≤ suc (length xs)
+    by true e rest = let one = step p x xs true e in omega arith
+    by false e rest = let one = step p x xs false e in omega arith
+
 module _ (p q : ℕ → Bool) (one : ℕ) (same : (n : ℕ) → ¬ (n ≡ one) → q n ≡ p n) where
   past : (a m : ℕ) → one < a → length (filter p (range_with_len a m)) ≡ length (filter q (range_with_len a m))
   past a zero low = refl

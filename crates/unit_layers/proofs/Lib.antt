@@ -3,3 +3,5 @@ pub mod Steps
 pub mod Chaining
 pub mod Bodies
 pub mod Places
+pub mod Inner
+pub mod Within

@@ -1,24 +1,34 @@
 -- Steps of loops over lists: what is counted, kept and joined with one item more.
-use Rattle.std.proofs.Common.{◌≡◌, ℕ, zero, suc, ◌+◌, ◌<◌, ◌≤◌, cond, Bool, true, false, List, [], ◌∷◌, ◌++◌, filter, length, map, take, get_or, slice_index, refl, ap, sym, subst, ◌∙◌, arith, append-nil, append_assoc}
+use Rattle.std.proofs.Common.{◌≡◌, ℕ, zero, suc, ◌+◌, ◌<◌, ◌≤◌, cond, Bool, true, false, List, [], ◌∷◌, ◌++◌, Option, filter, slice_get, length, map, take, get_or, slice_index, refl, ap, sym, subst, ◌∙◌, arith, append-nil, append_assoc}
 use Rattle.std.specs.List.{flat_map, range_with_len}
-use Rattle.std.proofs.lemmas.List.{length-append, length-take-le, take_more}
+use Rattle.std.proofs.lemmas.List.{length-append, length-take-le, map-append, take_more}
 use Rattle.std.proofs.lemmas.List.Elements.{filter-append}
-use Rattle.cpg_schema.specs.Graph.{PlainGraph}
+use Rattle.std.specs.Option.{option_and_then}
+use Rattle.cpg_schema.specs.declared.key.Key.TheVariants.{LineNumber, Name, Order, TypeFullName}
+use Rattle.cpg_schema.specs.declared.label.Label.TheVariants.{MethodParameterOut}
+use Rattle.cpg_schema.specs.Graph.{PlainGraph, PlainNode, bare_node}
+use Rattle.cpg_schema.specs.Properties.{number_of, text_of}
 use Rattle.cpg_schema.specs.Deltas.{NewEdge, PlainDelta}
 use Rattle.graph_forest.specs.Forest.{leaf, nodes_of, edges_of, with_forest}
 use Rattle.graph_forest.specs.declared.hang.Hang.TheVariants.{Plain}
-use Rattle.graph_forest.specs.Planting.{Planting, Plants, innermost}
-use Rattle.cpg_schema.specs.Graph.{PlainNode}
+use Rattle.graph_forest.specs.Planting.{Planting, Plants, fresh, innermost}
 use Rattle.unit_layers.specs.Adding.{with_edges}
 use Rattle.unit_layers.specs.Ready.{IsRow}
 use Rattle.unit_rules.specs.UnitEdges.{linked, parameter_edges}
+use Rattle.unit_rules.specs.UnitNodes.{out_node}
 
 -- The range with one number more.
 pub range_more : (a n : ℕ) → range_with_len a (n + 1) ≡ range_with_len a n ++ (a + n) ∷ []
 range_more a zero = let e : a ≡ a + 0 = omega arith in ap (λ (k : ℕ). k ∷ []) e
 range_more a (suc n) =
     let e : a + 1 + n ≡ a + suc n = omega arith in
-    ap (λ (xs : List ℕ). a ∷ xs) (range_more (a + 1) n ∙ ap (λ (k : ℕ). range_with_len (a + 1) n ++ k ∷ []) e)
+    let more : suc n + 1 ≡ suc (n + 1) = omega arith in
+    ap (range_with_len a) more ∙ ap (λ (xs : List ℕ). a ∷ xs) (range_more (a + 1) n ∙ ap (λ (k : ℕ). range_with_len (a + 1) n ++ k ∷ []) e)
+
+pub range_next : (n : ℕ) → range_with_len 0 (n + 1) ≡ range_with_len 0 n ++ n ∷ []
+range_next n =
+    let e : 0 + n ≡ n = omega arith in
+    range_more 0 n ∙ ap (λ (k : ℕ). range_with_len 0 n ++ k ∷ []) e
 
 -- So many items pass the test, and no more than so many.
 pub record Counted {X : Type 0} (p : X → Bool) (xs : List X) (count most : ℕ) : Type 0 where
@@ -94,3 +104,36 @@ row_more old new node nodes planted row = record {
       ∙ (ap (λ (opened : List ℕ). with_forest (innermost opened) (leaf Plain node) old.delta) row.opened ∙ ap (with_forest (innermost []) (leaf Plain node)) row.delta);
   opened = planted.opened ∙ row.opened;
 }
+
+pub row_start : (planter : Planting) → planter ≡ fresh → IsRow planter []
+row_start planter is = record { delta = ap (λ (p : Planting). p.delta) is; opened = ap (λ (p : Planting). p.opened) is }
+
+pub row_as : (planter : Planting) (nodes wanted : List PlainNode) → nodes ≡ wanted → IsRow planter nodes → IsRow planter wanted
+row_as planter nodes wanted same row = subst (IsRow planter) same row
+
+pub row_delta : (planter : Planting) (nodes wanted : List PlainNode) (delta : PlainDelta) → delta ≡ planter.delta → nodes ≡ wanted → IsRow planter nodes →
+    delta ≡ record { nodes = wanted; edges = []; settings = [] }
+row_delta planter nodes wanted delta is same row = is ∙ (row_as planter nodes wanted same row).delta
+
+pub map_more : (f : ℕ → PlainNode) (xs : List ℕ) (k : ℕ) → k < length xs → map f (take (k + 1) xs) ≡ map f (take k xs) ++ f (slice_index xs k) ∷ []
+map_more f xs k low = ap (map f) (take_more xs k 0 low) ∙ map-append f (take k xs) (slice_index xs k ∷ [])
+
+pub two_same : (a b first second : PlainNode) → a ≡ first → b ≡ second → a ∷ b ∷ [] ≡ first ∷ second ∷ []
+two_same a b first second one two = ap (λ (x : PlainNode). x ∷ b ∷ []) one ∙ ap (λ (x : PlainNode). first ∷ x ∷ []) two
+
+-- The METHOD_PARAMETER_OUT with the properties of its parameter.
+abbrev with_four : PlainNode → Option (List ℕ) → Option ℕ → Option ℕ → Option (List ℕ) → PlainNode
+with_four node name line order typed = record node { name = name; line_number = line; order = order; type_full_name = typed }
+
+pub out_is : (graph : PlainGraph) (parameter : ℕ) (node : PlainNode) (name typed : Option (List ℕ)) (line order : Option ℕ) → node ≡ bare_node MethodParameterOut →
+    name ≡ option_and_then (text_of Name) (slice_get graph.nodes parameter) → line ≡ option_and_then (number_of LineNumber) (slice_get graph.nodes parameter) →
+    order ≡ option_and_then (number_of Order) (slice_get graph.nodes parameter) → typed ≡ option_and_then (text_of TypeFullName) (slice_get graph.nodes parameter) →
+    record node { name = name; line_number = line; order = order; type_full_name = typed } ≡ out_node graph parameter
+out_is graph parameter node name typed line order node_is name_is line_is order_is typed_is =
+    let at = slice_get graph.nodes parameter in
+    let bare = bare_node MethodParameterOut in
+    ap (λ (n : PlainNode). with_four n name line order typed) node_is
+    ∙ (ap (λ (t : Option (List ℕ)). with_four bare t line order typed) name_is
+    ∙ (ap (λ (k : Option ℕ). with_four bare (option_and_then (text_of Name) at) k order typed) line_is
+    ∙ (ap (λ (k : Option ℕ). with_four bare (option_and_then (text_of Name) at) (option_and_then (number_of LineNumber) at) k typed) order_is
+    ∙ ap (λ (t : Option (List ℕ)). with_four bare (option_and_then (text_of Name) at) (option_and_then (number_of LineNumber) at) (option_and_then (number_of Order) at) t) typed_is)))

@@ -1,15 +1,15 @@
 //! The METHODs that are named `<global>`, and which of them are units.
 
-ghost use Rattle.std.specs.Prelude.{◌≡◌, ◌<◌, filter, length, IfOk};
+ghost use Rattle.std.specs.Prelude.{◌≡◌, ◌-◌, ◌<◌, ◌^◌, filter, length, IfOk};
 ghost use Rattle.cpg_schema.specs.Shape.{IsShaped};
-ghost use Rattle.graph_store.specs.Stored.{plain};
+ghost use Rattle.graph_store.specs.Stored.{plain, plain_edge};
 ghost use Rattle.edge_index.specs.Indexed.{IsIndexOf};
 ghost use Rattle.unit_rules.specs.Units.{all_nodes, is_global, is_inner, is_unit, units};
 
 use cpg_schema::{EdgeKind, Key, Label};
 use edge_index::Index;
 use graph_parts::parent_of;
-use graph_store::Graph;
+use graph_store::{Edge, Graph};
 use graph_store::laws::law_stored;
 use std::alloc::{AllocError, Global};
 
@@ -67,6 +67,17 @@ fn count_global(graph: &Graph) -> u32
     count
 }
 
+/// Whether the edge is an AST edge to such a METHOD.
+fn is_inner(graph: &Graph, edge: &Edge) -> bool
+    requires { edge.now.to < length graph.now.nodes }
+    ensures { result ≡ is_inner (plain graph.now) (plain_edge graph.now.names edge.now) }
+{
+    match edge.kind {
+        EdgeKind::Ast => is_global(graph, edge.to),
+        _ => false,
+    }
+}
+
 /// How many AST edges lead to one.
 fn count_inner(graph: &Graph) -> u32
     ensures { result ≡ length (filter (is_inner (plain graph.now)) (plain graph.now).edges) }
@@ -75,7 +86,7 @@ fn count_inner(graph: &Graph) -> u32
     let mut count = 0;
     let edges = graph.edges();
     for edge in edges {
-        if edge.kind == EdgeKind::Ast && is_global(graph, edge.to) {
+        if is_inner(graph, edge) {
             count += 1;
         }
     }
@@ -86,7 +97,8 @@ fn count_inner(graph: &Graph) -> u32
 /// To each of these leads one, so they are counted by their edges, in no memory.
 pub(crate) fn count_units(graph: &Graph) -> u32
     requires { IsShaped (plain graph.now) }
-    ensures { result ≡ length (units (plain graph.now)) }
+    ensures count { result ≡ length (units (plain graph.now)) }
+    ensures few { result < 2 ^ 32 - 1 }
 {
     law_stored(graph);
     count_global(graph) - count_inner(graph)
