@@ -15,8 +15,10 @@ use cpg_schema::{Caps, Label};
 use edge_index::{Index, index_of};
 use graph_delta::{ApplyStop, Delta, apply};
 use graph_forest::{Hang, NewNode, Planter};
-use graph_parts::{Places, argument, child_of, file_of, nearest_above, numbered, parent_of, part};
-use graph_parts::{places_of, root_of};
+use graph_parts::{
+    Places, argument, child_of, file_of, nearest_above, numbered, parent_of, part, places_of,
+    root_of,
+};
 use graph_store::Graph;
 use graph_store::laws::law_stored;
 use std::alloc::{AllocError, Global};
@@ -161,8 +163,16 @@ fn a_part_is_found_by_its_order_and_its_label(rt: HostRuntime) -> Result<(), Fai
         (7, Label::Call, 1, None, None),
     ] {
         assert!(rt; node < graph.len());
-        assert_eq!(rt; child_of(&graph, &index, node, label), child, "{label:?} of {node}");
-        assert_eq!(rt; numbered(&graph, &index, node, label, i), number, "{label:?} {i} of {node}");
+        assert_eq!(rt;
+            child_of(&graph, &index, node, label),
+            child,
+            "{label:?} of {node}"
+        );
+        assert_eq!(rt;
+            numbered(&graph, &index, node, label, i),
+            number,
+            "{label:?} {i} of {node}"
+        );
     }
     Ok(())
 }
@@ -173,7 +183,11 @@ fn an_argument_is_found_by_its_index(rt: HostRuntime) -> Result<(), Fail> {
     let index = index_of(rt.alloc(), &graph)?;
     for (call, i, want) in [(7, 1, Some(8)), (7, 2, Some(9)), (7, 3, None), (6, 1, None)] {
         assert!(rt; call < graph.len());
-        assert_eq!(rt; argument(&graph, &index, call, i), want, "argument {i} of {call}");
+        assert_eq!(rt;
+            argument(&graph, &index, call, i),
+            want,
+            "argument {i} of {call}"
+        );
     }
     Ok(())
 }
@@ -205,7 +219,11 @@ fn assert_place(rt: &impl Abort, graph: &Graph, index: &Index, places: &Places, 
         return panic!(rt; "no node {node}");
     };
     assert_eq!(rt; parent_of(graph, index, node), parent, "parent of {node}");
-    assert_eq!(rt; nearest_above(graph, index, node, Label::Method), method, "above {node}");
+    assert_eq!(rt;
+        nearest_above(graph, index, node, Label::Method),
+        method,
+        "above {node}"
+    );
     assert_eq!(rt; root_of(graph, index, node), 0, "root of {node}");
     assert_eq!(rt; file_of(graph, index, node), Some(0), "file of {node}");
     assert_eq!(rt; places.method_of(node), method, "METHOD of {node}");

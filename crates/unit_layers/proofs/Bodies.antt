@@ -5,11 +5,11 @@ use Rattle.std.specs.Option.{is_some}
 use Rattle.std.proofs.lemmas.Bool.{and_parts}
 use Rattle.cpg_schema.specs.declared.label.Label.TheVariants.{Block}
 use Rattle.cpg_schema.specs.declared.edge_kind.EdgeKind.TheVariants.{Ast}
-use Rattle.cpg_schema.specs.Names.{kind_rank, label_rank}
-use Rattle.cpg_schema.specs.Graph.{PlainNode, PlainEdge, PlainGraph}
+use Rattle.cpg_schema.specs.Names.{kind_rank}
+use Rattle.cpg_schema.specs.Graph.{PlainEdge, PlainGraph}
 use Rattle.cpg_schema.specs.Shape.{IsAstEdgeAt}
 use Rattle.graph_parts.specs.Finds.{Finds, IsLeast}
-use Rattle.graph_parts.specs.Parts.{HasLabel, IsChildOf, IsChildWith, IsNodeWith}
+use Rattle.graph_parts.specs.Parts.{HasLabel, IsChildOf, IsChildWith}
 use Rattle.graph_parts.specs.NodesAbove.{is_labelled}
 use Rattle.graph_parts.proofs.AboveList.{labelled_is, labelled_test}
 use Rattle.graph_parts.proofs.KindRank.{kind_from_rank}

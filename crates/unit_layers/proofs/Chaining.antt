@@ -1,5 +1,5 @@
 -- The chains of the nodes of each tree, built from the last node to the first, and walked.
-use Rattle.std.proofs.Common.{◌≡◌, ℕ, zero, suc, ◌+◌, ◌-◌, ◌<◌, ◌≤◌, ◌==◌, cond, Bool, true, false, List, [], ◌∷◌, ◌++◌, filter, length, replicate, slice_index, slice_set, refl, ap, sym, subst, ◌∙◌, arith, eqb, eqb-true, eq-eqb, ne_eqb, append-nil, append_assoc}
+use Rattle.std.proofs.Common.{◌≡◌, ℕ, suc, ◌+◌, ◌-◌, ◌<◌, ◌≤◌, ◌==◌, cond, Bool, true, false, List, [], ◌∷◌, ◌++◌, filter, length, replicate, slice_index, slice_set, refl, ap, sym, subst, ◌∙◌, arith, eqb-true, append-nil, append_assoc}
 use Rattle.std.specs.List.{All, range_with_len}
 use Rattle.std.proofs.lemmas.Bool.{eqb-false}
 use Rattle.std.proofs.lemmas.List.{length-append, length-set, length-replicate, get_or-replicate, get_or-set_same, get_or-set_other}
@@ -41,19 +41,22 @@ frame next node value head (x ∷ xs) all h =
     let other : ¬ (x ≡ node) = λ is. omega arith in
     let same = get_or-set_other next node x value 0 other in
     let size = length-set next node value in
-    let inside = h.1 in
-    (h.0, omega arith, h.2,
-    subst (λ (k : ℕ). IsChain (slice_set next node value) k xs) (sym same) (frame next node value (slice_index next x) xs (All-tail (λ (k : ℕ). node < k) x xs all) h.3))
+    let inside = h.1 in (
+      h.0,
+      omega arith,
+      h.2,
+      subst (λ (k : ℕ). IsChain (slice_set next node value) k xs) (sym same) (frame next node value (slice_index next x) xs (All-tail (λ (k : ℕ). node < k) x xs all) h.3),
+    )
 
 past_all : (graph : PlainGraph) (node root : ℕ) → All (λ (x : ℕ). node < x) (from_on graph (node + 1) root)
 past_all graph node root =
     All-filter (λ at. root_at graph at == root) (λ (x : ℕ). node < x) (range_with_len (node + 1) (length graph.nodes - (node + 1)))
     (λ k d low.
-        let count = length graph.nodes - (node + 1) in
-        let size = length-range_with_len (node + 1) count in
-        let inside : k < count = omega arith in
-        let is = get_or-range_with_len (node + 1) count k d inside in
-        omega arith)
+    let count = length graph.nodes - (node + 1) in
+    let size = length-range_with_len (node + 1) count in
+    let inside : k < count = omega arith in
+    let is = get_or-range_with_len (node + 1) count k d inside in
+    omega arith)
 
 -- With the node before them.
 split : (graph : PlainGraph) (node root : ℕ) → node < length graph.nodes → (t : Bool) → (root_at graph node == root) ≡ t → from_on graph node root ≡ cond t (node ∷ from_on graph (node + 1) root) (from_on graph (node + 1) root)

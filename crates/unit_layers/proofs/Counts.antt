@@ -1,7 +1,7 @@
 -- The METHODs named `<global>` to which an AST edge leads are as many as the AST edges that lead to one.
-use Rattle.std.proofs.Common.{◌≡◌, ℕ, zero, suc, ◌+◌, ◌<◌, ◌≤◌, ◌==◌, ◌&&◌, cond, Bool, true, false, if◌then◌else◌, List, [], ◌∷◌, Option, Some, None, filter, length, refl, ap, sym, subst, ◌∙◌, arith, eqb, eqb-true, eq-eqb, ne_eqb}
+use Rattle.std.proofs.Common.{◌≡◌, ℕ, zero, suc, ◌+◌, ◌<◌, ◌≤◌, ◌==◌, ◌&&◌, cond, Bool, true, false, List, [], ◌∷◌, Option, Some, None, filter, length, refl, ap, sym, ◌∙◌, arith, eqb, eqb-true, eq-eqb, ne_eqb}
 use Rattle.std.specs.List.{range_with_len}
-use Rattle.std.proofs.lemmas.Bool.{and_parts, eqb-false}
+use Rattle.std.proofs.lemmas.Bool.{eqb-false}
 use Rattle.cpg_schema.specs.declared.edge_kind.EdgeKind.TheVariants.{Ast}
 use Rattle.cpg_schema.specs.Names.{kind_rank}
 use Rattle.cpg_schema.specs.Graph.{PlainEdge, PlainGraph}
@@ -11,7 +11,7 @@ use Rattle.graph_parts.specs.NodesAbove.{parent_in}
 use Rattle.graph_parts.proofs.Depth.{ends_of, found}
 use Rattle.graph_parts.proofs.KindRank.{kind_from_rank}
 use Rattle.graph_parts.proofs.Tree.{child_at}
-use Rattle.unit_rules.specs.Units.{all_nodes, is_global, is_inner, is_missing, is_unit, units}
+use Rattle.unit_rules.specs.Units.{all_nodes, is_global, is_inner, is_missing, units}
 
 step : (p : ℕ → Bool) (x : ℕ) (xs : List ℕ) (t : Bool) → p x ≡ t → length (filter p (x ∷ xs)) ≡ cond t (suc (length (filter p xs))) (length (filter p xs))
 step p x xs true e = rw e refl

@@ -1,8 +1,7 @@
 -- The edges of a graph, read one by one.
-use Rattle.std.proofs.Common.{◌≡◌, ℕ, ◌+◌, ◌<◌, ◌==◌, ◌&&◌, Bool, false, List, [], ◌∷◌, ◌++◌, get_or, slice_get, length, map, take, refl, ap, sym, subst, ◌∙◌, arith, ne_eqb}
+use Rattle.std.proofs.Common.{◌≡◌, ℕ, ◌+◌, ◌<◌, ◌&&◌, Bool, false, List, [], ◌∷◌, ◌++◌, get_or, slice_get, length, map, take, ap, sym, ◌∙◌, arith, ne_eqb}
 use Rattle.std.proofs.lemmas.List.{get_or-map, length-map, take_more}
 use Rattle.std.proofs.lemmas.Option.{slice_get_within}
-use Rattle.cpg_schema.specs.declared.edge_kind.EdgeKind.{EdgeKind}
 use Rattle.cpg_schema.specs.declared.edge_kind.EdgeKind.TheVariants.{Ast}
 use Rattle.cpg_schema.specs.Names.{kind_rank}
 use Rattle.cpg_schema.specs.Graph.{PlainEdge}
@@ -22,7 +21,7 @@ shown_is graph edges is k d low =
     ap (λ (es : List Edge). get_or (map (plain_edge graph.names) es) k d) (sym is) ∙ get_or-map (plain_edge graph.names) edges k no_edge d low
 
 all_shown : (graph : StoredGraph) (edges : List Edge) → edges ≡ graph.edges → length (plain graph).edges ≡ length edges
-all_shown graph edges is = length-map (plain_edge graph.names) graph.edges ∙ ap length (sym is)
+all_shown graph edges is = length-map graph.edges (plain_edge graph.names) ∙ ap length (sym is)
 
 pub edges_next : (graph : StoredGraph) (edges : List Edge) → edges ≡ graph.edges → (k : ℕ) → k < length edges →
     take (k + 1) (plain graph).edges ≡ take k (plain graph).edges ++ shown_edge graph edges k ∷ []

@@ -1,5 +1,5 @@
 -- What serves all parts of a graph, and how new nodes are planted in a row (ours).
-use Rattle.std.specs.Prelude.{ℕ, ◌≡◌, List, []}
+use Rattle.std.specs.Prelude.{◌≡◌, List, []}
 use Rattle.cpg_schema.specs.Graph.{PlainNode}
 use Rattle.graph_store.specs.Stored.{StoredGraph, plain}
 use Rattle.edge_index.specs.Indexed.{IsIndexOf}

@@ -9,8 +9,8 @@ ghost use Rattle.unit_rules.specs.Units.{all_nodes, is_global, is_inner, is_unit
 use cpg_schema::{EdgeKind, Key, Label};
 use edge_index::Index;
 use graph_parts::parent_of;
-use graph_store::{Edge, Graph};
 use graph_store::laws::law_stored;
+use graph_store::{Edge, Graph};
 use std::alloc::{AllocError, Global};
 
 /// The name of the METHOD that stands for a file.

@@ -20,6 +20,7 @@ use std::alloc::AllocError;
 
 /// The FILE of a unit among the new nodes, and its NAMESPACE_BLOCK.
 const FILE: End = End::New(0);
+
 const NAMESPACE_BLOCK: End = End::New(1);
 
 /// Adds an edge without a variable.
@@ -125,7 +126,12 @@ fn join_parameter(
     if let Some(method) = parent_of(graph, index, parameter) {
         join(delta, End::Old(method), EdgeKind::Ast, End::New(out))?;
     }
-    join(delta, End::Old(parameter), EdgeKind::ParameterLink, End::New(out))
+    join(
+        delta,
+        End::Old(parameter),
+        EdgeKind::ParameterLink,
+        End::New(out),
+    )
 }
 
 /// Adds the edges of all parameters of a unit, whose METHOD_PARAMETER_OUTs are the new nodes from

@@ -14,9 +14,12 @@ call_allowed =
 method_allowed : IsAllowedUnder (Some Block) method_forest
 method_allowed =
     let body : Forest = branch Plain (ordered Block 2) call_forest in
-    let last : Forest = leaf Plain (ordered MethodReturn 3) in
-    (refl, allowed-beside (Some Method) (leaf Plain (ordered MethodParameterIn 1)) (beside body last) (refl, tt, tt)
-    (allowed-beside (Some Method) body last (refl, call_allowed, tt) (refl, tt, tt)), tt)
+    let last : Forest = leaf Plain (ordered MethodReturn 3) in (
+      refl,
+      allowed-beside (Some Method) (leaf Plain (ordered MethodParameterIn 1)) (beside body last) (refl, tt, tt)
+          (allowed-beside (Some Method) body last (refl, call_allowed, tt) (refl, tt, tt)),
+      tt,
+    )
 
 allowed : IsAllowed named_forest
 allowed =

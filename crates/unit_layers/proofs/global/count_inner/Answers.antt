@@ -1,5 +1,4 @@
-use Rattle.std.proofs.Common.{◌≡◌, ℕ, ◌+◌, ◌<◌, length, take, sym, subst, ap, ◌∙◌}
-use Rattle.edge_index.proofs.Counting.{no_edge}
+use Rattle.std.proofs.Common.{ℕ, ◌+◌, take, sym, subst, ◌∙◌}
 use Rattle.graph_store.specs.Stored.{plain}
 use Rattle.unit_rules.specs.Units.{is_inner}
 use Rattle.unit_layers.proofs.Inner.{edge_low, edges_next, shown_edge}

@@ -1,4 +1,4 @@
-use Rattle.std.proofs.Common.{◌≤◌, filter, length, arith}
+use Rattle.std.proofs.Common.{length, arith}
 use Rattle.std.proofs.lemmas.List.FromFn.{length-range_with_len}
 use Rattle.graph_store.specs.Stored.{plain}
 use Rattle.unit_rules.specs.Units.{all_nodes, is_unit}

@@ -1,4 +1,4 @@
-use Rattle.std.proofs.Common.{◌≡◌, ◌+◌, ◌∷◌, ◌++◌, [], filter, true, false, sym, ap, ◌∙◌, append-nil}
+use Rattle.std.proofs.Common.{filter, true, false, sym, ap, ◌∙◌, append-nil}
 use Rattle.std.specs.List.{range_with_len}
 use Rattle.graph_store.specs.Stored.{plain}
 use Rattle.unit_rules.specs.Units.{is_unit}

@@ -1,4 +1,4 @@
-use Rattle.std.proofs.Common.{◌∙◌, sym}
+use Rattle.std.proofs.Common.{◌∙◌}
 use Rattle.graph_store.specs.Stored.{plain}
 use Rattle.unit_layers.proofs.Bodies.{body_is}
 use Rattle.unit_layers.proofs.unit_edges.has_body.Goals as goal

@@ -1,8 +1,7 @@
-use Rattle.std.proofs.Common.{◌≡◌, ℕ, List, Option, Some, None, OnOk, sym, subst, ap, ◌∙◌}
+use Rattle.std.proofs.Common.{◌≡◌, List, Some, None, OnOk, sym, subst, ap, ◌∙◌}
 use Rattle.cpg_schema.specs.declared.label.Label.TheVariants.{Call}
 use Rattle.cpg_schema.specs.Deltas.{NewEdge}
 use Rattle.graph_store.specs.Stored.{plain}
-use Rattle.unit_rules.specs.UnitEdges.{in_method, label_edges, member_edges}
 use Rattle.unit_rules.specs.Units.{label_at}
 use Rattle.unit_layers.specs.Adding.{with_edges}
 use Rattle.unit_layers.proofs.Places.{call_edges, method_same}

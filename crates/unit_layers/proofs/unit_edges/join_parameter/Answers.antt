@@ -1,5 +1,5 @@
-use Rattle.std.proofs.Common.{◌≡◌, ℕ, [], ◌∷◌, List, Option, Some, None, OnOk, sym, subst, ap, ◌∙◌}
-use Rattle.cpg_schema.specs.Deltas.{NewEdge, PlainDelta}
+use Rattle.std.proofs.Common.{◌≡◌, ℕ, [], ◌∷◌, Option, Some, None, OnOk, subst, ap, ◌∙◌}
+use Rattle.cpg_schema.specs.Deltas.{PlainDelta}
 use Rattle.cpg_schema.specs.declared.edge_kind.EdgeKind.TheVariants.{Ast, ParameterLink}
 use Rattle.cpg_schema.specs.declared.end.End.TheVariants.{Old, New}
 use Rattle.graph_store.specs.Stored.{plain}

@@ -7,5 +7,5 @@ use Rattle.unit_layers.proofs.unit_edges.join_parameters.Given as goal
 abbrev pub invariant-loop-parameter : goal.invariant-loop-parameter
 invariant-loop-parameter l = record {
   out_is : l.out ≡ 2 + l.parameter-index;
-  joined : l.delta ≡ with_edges (linked (plain l.graph) 2 (take l.parameter-index l.parameters)) l.fn.delta
+  joined : l.delta ≡ with_edges (linked (plain l.graph) 2 (take l.parameter-index l.parameters)) l.fn.delta;
 }

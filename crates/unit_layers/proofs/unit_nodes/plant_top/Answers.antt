@@ -1,4 +1,4 @@
-use Rattle.std.proofs.Common.{◌≡◌, List, Option, Some, ◌∷◌, [], ℕ, ap, ◌∙◌}
+use Rattle.std.proofs.Common.{List, Option, Some, ◌∷◌, [], ℕ, ap, ◌∙◌}
 use Rattle.std.proofs.lemmas.Result.{on_ok_weaker}
 use Rattle.std.specs.Option.{option_copied}
 use Rattle.cpg_schema.specs.declared.label.Label.TheVariants.{File}

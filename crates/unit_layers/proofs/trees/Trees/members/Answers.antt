@@ -1,5 +1,5 @@
-use Rattle.std.proofs.Common.{◌≡◌, ◌++◌, ◌∷◌, [], ℕ, List, length, sym, subst, ap, arith}
-use Rattle.std.proofs.lemmas.List.{get_or_read, length-append}
+use Rattle.std.proofs.Common.{◌++◌, ◌∷◌, [], ℕ, List, sym, subst, arith}
+use Rattle.std.proofs.lemmas.List.{get_or_read}
 use Rattle.graph_store.specs.Stored.{plain}
 use Rattle.unit_rules.specs.Units.{members}
 use Rattle.unit_layers.proofs.Chaining.{Walked, walked_all, walked_on}
