@@ -17,7 +17,7 @@ use Rattle.graph_parts.specs.Parts.{HasEdge, HasIndex, HasLabel, HasOrder, IsArg
 use Rattle.graph_parts.proofs.KindRank.{kind_from_rank}
 use Rattle.cfg_edges.proofs.Bools.{and_both, both_and, or_either, or_left, or_right}
 use Rattle.cfg_layer.specs.Kinds.{Kind, kind_of, HasKind, function, primary, passed, call, short_circuit, conditional, size_of, block, if_statement, while_loop, do_loop, for_loop, switch_statement, jump_target, goto_jump, break_jump, continue_jump, return_jump, unknown}
-use Rattle.cfg_layer.specs.Tested.{some_edge, is_edge, has_edge, passes, node_passes, least_from, least_node, is_number, is_name, kind_number, is_kind, is_child_with, is_block_label, is_return_label, is_block, is_method_return, part_at, block_at, return_at, argument_at}
+use Rattle.cfg_layer.specs.Tested.{some_edge, is_edge, has_edge, passes, node_passes, least_from, least_node, is_number, is_name, kind_number, is_kind, is_child_with, is_block_label, is_return_label, is_block, is_method_return, part_at, block_at, return_at, argument_at, is_none}
 
 -- The test tells whether it is so.
 pub record Tells (test : Bool) (P : Type 0) : Type 0 where
@@ -156,20 +156,47 @@ node_within graph P number h = slice_get_within graph.nodes number h.node h.node
 
 -- ---- The least node.
 
-least_is : (test : ℕ → Bool) (P : ℕ → Type 0) → ((x : ℕ) → Tells (test x) (P x)) → (x count : ℕ) → ((y : ℕ) → P y → y < x + count) → ((y : ℕ) → y < x → ¬ (P y)) → Finds (IsLeast P) (least_from test x count)
+-- Nothing has the property, or the node is the least that has it.
+abbrev pub IsLeastOrNone : (ℕ → Type 0) → Option ℕ → Type 0
+IsLeastOrNone P None = (y : ℕ) → ¬ (P y)
+IsLeastOrNone P (Some x) = IsLeast P x
+
+least_is : (test : ℕ → Bool) (P : ℕ → Type 0) → ((x : ℕ) → Tells (test x) (P x)) → (x count : ℕ) → ((y : ℕ) → P y → y < x + count) → ((y : ℕ) → y < x → ¬ (P y)) → IsLeastOrNone P (least_from test x count)
 unfolding least_from
-least_is test P t x zero high low = λ y p. low y (let h : y < x + 0 = high y p.is in omega arith) p.is
+least_is test P t x zero high low = λ y p. low y (let h : y < x + 0 = high y p in omega arith) p
 least_is test P t x (suc count) high low = by (test x) refl (λ n. least_is test P t (x + 1) count (λ y p. let h : y < x + suc count = high y p in omega arith) (λ y l. below y n (eq-or-lt_of_le (let m : y ≤ x = omega arith in m)))) where
   below : (y : ℕ) → ¬ (P x) → (y ≡ x) ⊎ (y < x) → ¬ (P y)
   below y n (inl e) p = n (subst P e p)
   below y n (inr l) p = low y l p
 
-  by : (b : Bool) → test x ≡ b → (¬ (P x) → Finds (IsLeast P) (least_from test (x + 1) count)) → Finds (IsLeast P) (cond b (Some x) (least_from test (x + 1) count))
+  by : (b : Bool) → test x ≡ b → (¬ (P x) → IsLeastOrNone P (least_from test (x + 1) count)) → IsLeastOrNone P (cond b (Some x) (least_from test (x + 1) count))
   by true e rest = record { is = (t x).yes e; least = λ y p. elim (cases_lt y x) [ inl l ↦ absurd (low y l p) | inr a ↦ a ] }
   by false e rest = rest (λ p. (let f : test x ≡ true = (t x).told p in cc))
 
+pub least_all : (graph : PlainGraph) (test : ℕ → Bool) (P : ℕ → Type 0) → ((x : ℕ) → Tells (test x) (P x)) → ((y : ℕ) → P y → y < length graph.nodes) → IsLeastOrNone P (least_node graph test)
+least_all graph test P t within = least_is test P t 0 (length graph.nodes) (λ y p. let h : y < length graph.nodes = within y p in omega arith) (λ y l. absurd (omega arith))
+
+found_of : (P : ℕ → Type 0) (o : Option ℕ) → IsLeastOrNone P o → Finds (IsLeast P) o
+found_of P None h = λ y p. h y p.is
+found_of P (Some x) h = h
+
 pub tells_least : (graph : PlainGraph) (test : ℕ → Bool) (P : ℕ → Type 0) → ((x : ℕ) → Tells (test x) (P x)) → ((y : ℕ) → P y → y < length graph.nodes) → Finds (IsLeast P) (least_node graph test)
-tells_least graph test P t within = least_is test P t 0 (length graph.nodes) (λ y p. let h : y < length graph.nodes = within y p in omega arith) (λ y l. absurd (omega arith))
+tells_least graph test P t within = found_of P (least_node graph test) (least_all graph test P t within)
+
+-- No node passes the test.
+pub tells_none : (graph : PlainGraph) (test : ℕ → Bool) (P : ℕ → Type 0) → ((x : ℕ) → Tells (test x) (P x)) → ((y : ℕ) → P y → y < length graph.nodes) → Tells (is_none (least_node graph test)) ((y : ℕ) → ¬ (P y))
+tells_none graph test P t within = by (least_node graph test) (least_all graph test P t within) where
+  by : (o : Option ℕ) → IsLeastOrNone P o → Tells (is_none o) ((y : ℕ) → ¬ (P y))
+  by None h = record { yes = λ e. h; told = λ n. refl }
+  by (Some x) h = record { yes = λ e. cc; told = λ n. absurd (n x h.is) }
+
+pub one_least : (P : ℕ → Type 0) (x y : ℕ) → IsLeast P x → IsLeast P y → x ≡ y
+one_least P x y one other = let a : x ≤ y = one.least y other.is in let b : y ≤ x = other.least x one.is in omega arith
+
+-- The number is the one that was found.
+pub tells_found : (P : ℕ → Type 0) (x : ℕ) (o : Option ℕ) → Finds (IsLeast P) o → Tells (is_number x o) (IsLeast P x)
+tells_found P x None n = record { yes = λ e. cc; told = λ h. absurd (n x h) }
+tells_found P x (Some y) h = tells_as (tells_equal y x) (λ e. subst (IsLeast P) e h) (λ l. one_least P y x h l)
 
 -- ---- Parts.
 

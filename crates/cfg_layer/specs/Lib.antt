@@ -5,3 +5,4 @@ pub mod Jumps
 pub mod Constructs
 pub mod Plans
 pub mod Tested
+pub mod Planned

@@ -99,7 +99,11 @@ is_default node = is_target_named (codes "default") node
 abbrev pub is_case : PlainNode → Bool
 is_case node = is_target_named (codes "case") node || is_default node
 
--- The labels of the children of a METHOD.
+-- The labels of a METHOD and of its children.
+abbrev pub is_method_label : Label → Bool
+is_method_label label.Method = Bool.true
+is_method_label _ = Bool.false
+
 abbrev pub is_block_label : Label → Bool
 is_block_label label.Block = Bool.true
 is_block_label _ = Bool.false
@@ -107,6 +111,9 @@ is_block_label _ = Bool.false
 abbrev pub is_return_label : Label → Bool
 is_return_label label.MethodReturn = Bool.true
 is_return_label _ = Bool.false
+
+abbrev pub is_method : PlainNode → Bool
+is_method node = is_method_label node.label
 
 abbrev pub is_block : PlainNode → Bool
 is_block node = is_block_label node.label
@@ -145,33 +152,36 @@ is_unevaluated graph parent node =
     node_passes graph (is_kind size_of) parent
     || (node_passes graph (is_kind jump_target) parent && is_number node (part_at graph 1 parent))
 
+abbrev pub is_ast : PlainEdge → Bool
+is_ast edge = kind_rank edge.kind == kind_rank Ast
+
 abbrev pub is_step : PlainGraph → PlainEdge → Bool
 is_step graph edge =
-    (kind_rank edge.kind == kind_rank Ast)
+    is_ast edge
     && (not (node_passes graph is_passed_over edge.from)
     && not (is_unevaluated graph edge.from edge.to))
 
+-- From where to where the edges that pass the test lead.
+unfoldable pub steps_by : (PlainEdge → Bool) → List PlainEdge → List (ℕ × ℕ)
+steps_by test [] = []
+steps_by test (edge ∷ edges) =
+    if test edge then (edge.from, edge.to) ∷ steps_by test edges else steps_by test edges
+
 -- From a walked node to its children that are walked.
-unfoldable pub steps_down : PlainGraph → List PlainEdge → List (ℕ × ℕ)
-steps_down graph [] = []
-steps_down graph (edge ∷ edges) =
-    if is_step graph edge then (edge.from, edge.to) ∷ steps_down graph edges
-    else steps_down graph edges
+abbrev pub steps_down : PlainGraph → List (ℕ × ℕ)
+steps_down graph = steps_by (is_step graph) graph.edges
 
 abbrev pub is_walked_from : PlainGraph → Option ℕ → ℕ → Bool
 is_walked_from graph None node = Bool.false
-is_walked_from graph (Some body) node = reaches nat_eq (steps_down graph graph.edges) body node
+is_walked_from graph (Some body) node = reaches nat_eq (steps_down graph) body node
 
-abbrev pub is_walked : PlainGraph → ℕ → ℕ → Bool
+unfoldable pub is_walked : PlainGraph → ℕ → ℕ → Bool
 is_walked graph method node = is_walked_from graph (block_at graph method) node
 
 -- ---- What is around a node.
 
-unfoldable pub ast_steps : List PlainEdge → List (ℕ × ℕ)
-ast_steps [] = []
-ast_steps (edge ∷ edges) =
-    if kind_rank edge.kind == kind_rank Ast then (edge.from, edge.to) ∷ ast_steps edges
-    else ast_steps edges
+abbrev pub ast_steps : PlainGraph → List (ℕ × ℕ)
+ast_steps graph = steps_by is_ast graph.edges
 
 -- A step leads from the ancestor to a node from which steps lead to this one, none or more.
 unfoldable pub leads_down : List (ℕ × ℕ) → List (ℕ × ℕ) → ℕ → ℕ → Bool
@@ -179,18 +189,63 @@ leads_down [] all ancestor node = Bool.false
 leads_down (step ∷ steps) all ancestor node =
     ((step.0 == ancestor) && reaches nat_eq all step.1 node) || leads_down steps all ancestor node
 
-abbrev pub is_above : PlainGraph → ℕ → ℕ → Bool
-is_above graph ancestor node =
-    leads_down (ast_steps graph.edges) (ast_steps graph.edges) ancestor node
+unfoldable pub is_above : PlainGraph → ℕ → ℕ → Bool
+is_above graph ancestor node = leads_down (ast_steps graph) (ast_steps graph) ancestor node
 
 abbrev pub is_none : Option ℕ → Bool
 is_none None = Bool.true
 is_none (Some x) = Bool.false
 
-abbrev pub is_innermost : PlainGraph → (PlainNode → Bool) → ℕ → ℕ → Bool
+-- A node with the property stands between the two.
+abbrev pub is_between : PlainGraph → (PlainNode → Bool) → ℕ → ℕ → ℕ → Bool
+is_between graph test node around between =
+    is_above graph around between && (is_above graph between node && node_passes graph test between)
+
+unfoldable pub is_innermost : PlainGraph → (PlainNode → Bool) → ℕ → ℕ → Bool
 is_innermost graph test node around =
     is_above graph around node
     && (node_passes graph test around
-    && is_none (least_node graph (λ between.
-      is_above graph around between
-      && (is_above graph between node && node_passes graph test between))))
+    && is_none (least_node graph (is_between graph test node around)))
+
+-- ---- Jumps.
+
+abbrev pub is_label_in : PlainGraph → ℕ → List ℕ → ℕ → Bool
+is_label_in graph method name target =
+    node_passes graph (is_target_named name) target && is_innermost graph is_method target method
+
+-- The JUMP_TARGET of a NAME in a function.
+abbrev pub label_in : PlainGraph → ℕ → List ℕ → Option ℕ
+label_in graph method name = least_node graph (is_label_in graph method name)
+
+abbrev pub is_label_of : PlainGraph → ℕ → ℕ → Option (List ℕ) → Bool
+is_label_of graph method target None = Bool.false
+is_label_of graph method target (Some name) = is_number target (label_in graph method name)
+
+unfoldable pub leads_to_label : PlainGraph → ℕ → ℕ → ℕ → Bool
+leads_to_label graph method node target =
+    node_passes graph (λ at. is_kind goto_jump at && is_label_of graph method target at.name) node
+    && is_walked graph method target
+
+-- A walked node with the property, of which the other is the innermost around it with its own.
+unfoldable pub belongs : PlainGraph → ℕ → (PlainNode → Bool) → (PlainNode → Bool) → ℕ → ℕ → Bool
+belongs graph method test outer node around =
+    is_walked graph method node
+    && (node_passes graph test node && is_innermost graph outer node around)
+
+abbrev pub leads_to_case : PlainGraph → ℕ → ℕ → ℕ → Bool
+leads_to_case graph method node target =
+    belongs graph method is_case (is_kind switch_statement) target node
+
+abbrev pub is_default_of : PlainGraph → ℕ → ℕ → ℕ → Bool
+is_default_of graph method node target =
+    belongs graph method is_default (is_kind switch_statement) target node
+
+abbrev pub leads_to : PlainGraph → ℕ → ℕ → ℕ → Bool
+leads_to graph method node target =
+    leads_to_label graph method node target || leads_to_case graph method node target
+
+abbrev pub is_break_of : PlainGraph → ℕ → ℕ → ℕ → Bool
+is_break_of graph method node jump = belongs graph method (is_kind break_jump) is_left jump node
+
+abbrev pub is_continue_of : PlainGraph → ℕ → ℕ → ℕ → Bool
+is_continue_of graph method node jump = belongs graph method (is_kind continue_jump) is_loop jump node
