@@ -1,3 +1,4 @@
 pub mod Telling
 pub mod Walking
 pub mod Planning
+pub mod Trees

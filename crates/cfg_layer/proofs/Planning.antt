@@ -4,7 +4,8 @@ use Rattle.std.specs.Prelude.{◌==◌, ◌↔◌}
 use Rattle.std.specs.List.{All}
 use Rattle.std.proofs.Math.Nat.{eq-or-lt_of_le}
 use Rattle.std.proofs.lemmas.Bool.{eqb-true, eq-eqb}
-use Rattle.std.proofs.lemmas.Option.{slice_get_within}
+use Rattle.std.proofs.lemmas.Option.{slice_get_within, get_or_from_slice_get}
+use Rattle.std.proofs.lemmas.List.Elements.{All-get_or}
 use Rattle.cpg_schema.specs.declared.edge_kind.EdgeKind.{EdgeKind}
 use Rattle.cpg_schema.specs.declared.edge_kind.EdgeKind.TheVariants.{Ast}
 use Rattle.cpg_schema.specs.declared.label.Label.TheVariants as label
@@ -95,7 +96,7 @@ rising test x (suc count) i k one other l f g = by (test x) i k l f g (λ i k l 
 
 -- An edge's end is a node.
 all_at : {X : Type 0} (P : X → Type 0) (xs : List X) (k : ℕ) (x : X) → All P xs → slice_get xs k ≡ Some x → P x
-all_at P xs k x a e = ?
+all_at P xs k x a e = subst P (get_or_from_slice_get xs k x x e) (All-get_or P xs k x (slice_get_within xs k x e) a)
 
 pub edge_within : (graph : PlainGraph) → IsGraph graph → (kind : EdgeKind) (from to : ℕ) → HasEdge graph kind from to → to < length graph.nodes
 edge_within graph g kind from to h = by (all_at (IsEdgeAmong graph.nodes) graph.edges h.position h.edge g.edges h.edge_is) where
