@@ -2,3 +2,4 @@ pub mod Telling
 pub mod Walking
 pub mod Planning
 pub mod Trees
+pub mod Marking
