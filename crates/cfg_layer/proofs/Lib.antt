@@ -3,3 +3,4 @@ pub mod Walking
 pub mod Planning
 pub mod Trees
 pub mod Marking
+pub mod Adding

@@ -6,3 +6,4 @@ pub mod Constructs
 pub mod Plans
 pub mod Tested
 pub mod Planned
+pub mod Adds
