@@ -15,9 +15,9 @@ use Rattle.cfg_rules.specs.Plan.{Construct, HasArrow, arrows_at, Breaks, BreaksA
 use Rattle.cfg_rules.specs.Walker.{node, gap, Position, enter, leave, mark_of, HeadAt, Step, by_rule, past_gap, by_break, by_continue, Runs, first, then, Flows, tail_position}
 use Rattle.cfg_layer.specs.Kinds.{Kind, HasKind, kind_of, function, primary, passed, call, short_circuit, conditional, size_of, block, if_statement, while_loop, do_loop, for_loop, switch_statement, jump_target, goto_jump, break_jump, continue_jump, return_jump, unknown}
 use Rattle.cfg_layer.specs.Walked.{HasBody, IsWalked}
-use Rattle.cfg_layer.specs.Constructs.{IsRuleBy, IsRuleOf, IsConstructOf, IsFunctionOf}
+use Rattle.cfg_layer.specs.Constructs.{IsRuleBy, some as by_some, none as by_none, IsRuleOf, IsConstructOf, IsFunctionOf}
 use Rattle.cfg_layer.specs.Plans.{IsUnwalked, IsPlanOf}
-use Rattle.cfg_layer.proofs.Trees.{IsSite, site}
+use Rattle.cfg_layer.proofs.Trees.{IsSite, at_top, at_walked, at_other, site}
 
 -- ---- Kinds with a mark.
 
@@ -96,12 +96,12 @@ quiet_kind graph method x while_loop r h = inr (subst IsQuietRule (sym h) (λ n.
 quiet_kind graph method x do_loop r h = inr (subst IsQuietRule (sym h) (λ n. ((tt, tt), ((tt, tt), ((tt, tt), ((tt, tt), tt))))))
 quiet_kind graph method x for_loop r h = inr (by r h) where
   by : (r : Rule) → IsRuleBy _ rule.For rule.Endless r → IsQuietRule r
-  by r (IsRuleBy.some y p) = λ n. ((tt, tt), ((tt, tt), ((tt, tt), ((tt, tt), ((tt, tt), ((tt, tt), tt))))))
-  by r (IsRuleBy.none p) = λ n. ((tt, tt), ((tt, tt), ((tt, tt), ((tt, tt), ((tt, tt), tt)))))
+  by r (by_some y p) = λ n. ((tt, tt), ((tt, tt), ((tt, tt), ((tt, tt), ((tt, tt), ((tt, tt), tt))))))
+  by r (by_none p) = λ n. ((tt, tt), ((tt, tt), ((tt, tt), ((tt, tt), ((tt, tt), tt)))))
 quiet_kind graph method x switch_statement r h = inr (by r h) where
   by : (r : Rule) → IsRuleBy _ rule.SwitchDefault rule.Switch r → IsQuietRule r
-  by r (IsRuleBy.some y p) = λ n. ((tt, tt), ((tt, tt), ((tt, tt), tt)))
-  by r (IsRuleBy.none p) = λ n. ((tt, tt), ((tt, tt), ((tt, tt), ((tt, tt), tt))))
+  by r (by_some y p) = λ n. ((tt, tt), ((tt, tt), ((tt, tt), tt)))
+  by r (by_none p) = λ n. ((tt, tt), ((tt, tt), ((tt, tt), ((tt, tt), tt))))
 quiet_kind graph method x unknown r h = inr (subst IsQuietRule (sym h) (λ n. ((tt, tt), ((tt, tt), ((tt, tt), tt)))))
 quiet_kind graph method x _ r h = inl tt
 
@@ -129,9 +129,9 @@ other_quiet : (c : Construct) → IsUnwalked c → (a : Arrow) → IsIn (arrows 
 other_quiet c u a i = quiet_in (arrows c.rule (length c.parts)) a (subst (λ (r : Rule). AreQuiet (arrows r (length c.parts))) (sym u.rule_is) ((tt, tt), tt)) i
 
 stops_at : (graph : PlainGraph) (method x : ℕ) (c : Construct) (head : Head) → IsSite graph method x c → IsIn (arrows c.rule (length c.parts)) (arrow stop head) → IsFrom graph method x
-stops_at graph method x c head (IsSite.top s f) i = inl s
-stops_at graph method x c head (IsSite.walks at is w h) i = elim (loud graph method x c at is h) [ inl m ↦ inr m | inr q ↦ absurd (q (arrow stop head) i).0 ]
-stops_at graph method x c head (IsSite.other u) i = absurd (other_quiet c u (arrow stop head) i).0
+stops_at graph method x c head (at_top s f) i = inl s
+stops_at graph method x c head (at_walked at is w h) i = elim (loud graph method x c at is h) [ inl m ↦ inr m | inr q ↦ absurd (q (arrow stop head) i).0 ]
+stops_at graph method x c head (at_other u) i = absurd (other_quiet c u (arrow stop head) i).0
 
 method_mark : (n : ℕ) (tail : Tail) → ¬ IsIn (arrows rule.Method n) (arrow tail mark)
 unfolding IsIn
@@ -141,24 +141,24 @@ method_mark n tail (inr (inr (inl e))) = let h : exit ≡ mark = ap (λ (v : Arr
 method_mark n tail (inr (inr (inr i))) = absurd i
 
 marks_at : (graph : PlainGraph) (method x : ℕ) (c : Construct) (tail : Tail) → IsSite graph method x c → IsIn (arrows c.rule (length c.parts)) (arrow tail mark) → IsTo graph method x
-marks_at graph method x c tail (IsSite.top s f) i = absurd (method_mark (length c.parts) tail (subst (λ (r : Rule). IsIn (arrows r (length c.parts)) (arrow tail mark)) f.rule_is i))
-marks_at graph method x c tail (IsSite.walks at is w h) i = elim (loud graph method x c at is h) [ inl m ↦ inl m | inr q ↦ absurd (q (arrow tail mark) i).1 ]
-marks_at graph method x c tail (IsSite.other u) i = absurd (other_quiet c u (arrow tail mark) i).1
+marks_at graph method x c tail (at_top s f) i = absurd (method_mark (length c.parts) tail (subst (λ (r : Rule). IsIn (arrows r (length c.parts)) (arrow tail mark)) f.rule_is i))
+marks_at graph method x c tail (at_walked at is w h) i = elim (loud graph method x c at is h) [ inl m ↦ inl m | inr q ↦ absurd (q (arrow tail mark) i).1 ]
+marks_at graph method x c tail (at_other u) i = absurd (other_quiet c u (arrow tail mark) i).1
 
 ends_at : (graph : PlainGraph) (method x : ℕ) (c : Construct) (tail : Tail) (end : ℕ) → IsSite graph method x c → IsIn (arrows c.rule (length c.parts)) (arrow tail finish) → c.method_return ≡ Some end → IsTo graph method end
-ends_at graph method x c tail end (IsSite.top s f) i e = inr (subst (Finds (IsChildOf graph label.MethodReturn method)) e f.end)
-ends_at graph method x c tail end (IsSite.walks at is w h) i e = inr (subst (Finds (IsChildOf graph label.MethodReturn method)) e h.end)
-ends_at graph method x c tail end (IsSite.other u) i e = absurd (other_quiet c u (arrow tail finish) i).1
+ends_at graph method x c tail end (at_top s f) i e = inr (subst (Finds (IsChildOf graph label.MethodReturn method)) e f.end)
+ends_at graph method x c tail end (at_walked at is w h) i e = inr (subst (Finds (IsChildOf graph label.MethodReturn method)) e h.end)
+ends_at graph method x c tail end (at_other u) i e = absurd (other_quiet c u (arrow tail finish) i).1
 
 breaks_from : (graph : PlainGraph) (method x a : ℕ) (c : Construct) → IsSite graph method x c → IsIn c.breaks a → CanBreak c.rule → IsFrom graph method a
-breaks_from graph method x a c (IsSite.top s f) i can = absurd (subst CanBreak f.rule_is can)
-breaks_from graph method x a c (IsSite.walks at is w h) i can = let b = (h.jumps.breaks a).0 i in inr (record { node = b.is.is_node.node; node_is = b.is.is_node.node_is; has = marked_label b.is.is_node.node (subst IsMarked (sym b.is.is_node.has) tt) })
-breaks_from graph method x a c (IsSite.other u) i can = absurd (subst CanBreak u.rule_is can)
+breaks_from graph method x a c (at_top s f) i can = absurd (subst CanBreak f.rule_is can)
+breaks_from graph method x a c (at_walked at is w h) i can = let b = (h.jumps.breaks a).0 i in inr (record { node = b.is.is_node.node; node_is = b.is.is_node.node_is; has = marked_label b.is.is_node.node (subst IsMarked (sym b.is.is_node.has) tt) })
+breaks_from graph method x a c (at_other u) i can = absurd (subst CanBreak u.rule_is can)
 
 continues_from : (graph : PlainGraph) (method x a : ℕ) (c : Construct) → IsSite graph method x c → IsIn c.continues a → CanContinue c.rule → IsFrom graph method a
-continues_from graph method x a c (IsSite.top s f) i can = absurd (subst CanContinue f.rule_is can)
-continues_from graph method x a c (IsSite.walks at is w h) i can = let b = (h.jumps.continues a).0 i in inr (record { node = b.is.is_node.node; node_is = b.is.is_node.node_is; has = marked_label b.is.is_node.node (subst IsMarked (sym b.is.is_node.has) tt) })
-continues_from graph method x a c (IsSite.other u) i can = absurd (subst CanContinue u.rule_is can)
+continues_from graph method x a c (at_top s f) i can = absurd (subst CanContinue f.rule_is can)
+continues_from graph method x a c (at_walked at is w h) i can = let b = (h.jumps.continues a).0 i in inr (record { node = b.is.is_node.node; node_is = b.is.is_node.node_is; has = marked_label b.is.is_node.node (subst IsMarked (sym b.is.is_node.has) tt) })
+continues_from graph method x a c (at_other u) i can = absurd (subst CanContinue u.rule_is can)
 
 mark_number : Position → ℕ
 mark_number (mark_of x) = x

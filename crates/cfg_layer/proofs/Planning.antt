@@ -20,9 +20,9 @@ use Rattle.cfg_rules.specs.declared.rule.Rule.TheVariants as rule
 use Rattle.cfg_rules.specs.Member.{IsIn}
 use Rattle.cfg_rules.specs.Plan.{Construct}
 use Rattle.cfg_layer.specs.Kinds.{Kind, HasKind, IsTargetNamed, kind_of, function, primary, passed, call, short_circuit, conditional, size_of, block, if_statement, while_loop, do_loop, for_loop, switch_statement, jump_target, goto_jump, break_jump, continue_jump, return_jump, unknown}
-use Rattle.cfg_layer.specs.Walked.{HasBody, IsWalked, IsWalkedWith}
+use Rattle.cfg_layer.specs.Walked.{HasBody, IsWalked, IsWalkedWith, body as walk_body, below as walk_below}
 use Rattle.cfg_layer.specs.Jumps.{LeadsToLabel, LeadsToCase, IsBreakOf, IsContinueOf, IsDefaultOf}
-use Rattle.cfg_layer.specs.Constructs.{IsRuleBy, IsRuleOf, AreNumbered, AreArguments, AreChildren, AreOfTarget, ArePartsOf, AreJumpsOf, IsConstructOf, IsFunctionOf}
+use Rattle.cfg_layer.specs.Constructs.{IsRuleBy, some as by_some, none as by_none, IsRuleOf, AreNumbered, AreArguments, AreChildren, AreOfTarget, ArePartsOf, AreJumpsOf, IsConstructOf, IsFunctionOf}
 use Rattle.cfg_layer.specs.Plans.{IsUnwalked, IsPlanOf}
 use Rattle.cfg_layer.specs.Tested.{argument_at, block_at, has_edge, is_break_of, is_continue_of, is_default_of, is_walked, leads_to, least_node, part_at, return_at}
 use Rattle.cfg_layer.specs.Planned.{all_from, all_nodes, present, numbered_from, children, numbered, arguments, parts_of, rule_by, rule_of, walked_construct, function_construct, other_construct, construct_of, plan_from, plan_of}
@@ -165,12 +165,12 @@ parts_are graph g node return_jump = numbered_are graph node 1
 parts_are graph g node unknown = refl
 
 rule_found : (P : ℕ → Type 0) (one other : Rule) (o : Option ℕ) → Finds P o → IsRuleBy P one other (rule_by o one other)
-rule_found P one other None n = IsRuleBy.none n
-rule_found P one other (Some x) h = IsRuleBy.some x h
+rule_found P one other None n = by_none n
+rule_found P one other (Some x) h = by_some x h
 
 rule_least : (P : ℕ → Type 0) (one other : Rule) (o : Option ℕ) → IsLeastOrNone P o → IsRuleBy P one other (rule_by o one other)
-rule_least P one other None n = IsRuleBy.none n
-rule_least P one other (Some x) h = IsRuleBy.some x h.is
+rule_least P one other None n = by_none n
+rule_least P one other (Some x) h = by_some x h.is
 
 rule_is : (graph : PlainGraph) (method node : ℕ) (kind : Kind) → IsRuleOf graph method node kind (rule_of graph method node kind)
 unfolding rule_of
@@ -265,8 +265,8 @@ unfolding construct_of
 of_other graph method number node b n e = ap (λ (v : Bool). cond v (function_construct graph method) (cond (is_walked graph method number) (walked_construct graph method number (kind_of node)) other_construct)) (not_equal number method n) ∙ ap (λ (v : Bool). cond v (walked_construct graph method number (kind_of node)) other_construct) e
 
 pub walked_below : (graph : PlainGraph) (method node : ℕ) → IsWalked graph method node → IsAbove graph.edges method node
-walked_below graph method node (IsWalked.body n b) = above_child graph method n b.is.is_child
-walked_below graph method node (IsWalked.below p q w c np nu) = above_further graph method p q (walked_below graph method p w) c
+walked_below graph method node (walk_body n b) = above_child graph method n b.is.is_child
+walked_below graph method node (walk_below p q w c np nu) = above_further graph method p q (walked_below graph method p w) c
 
 pub not_itself : (graph : PlainGraph) → IsShaped graph → (method number : ℕ) → IsWalked graph method number → ¬ (number ≡ method)
 not_itself graph shaped method number w e = shaped.no_cycle method (walked_below graph method method (subst (IsWalked graph method) e w))

@@ -28,9 +28,9 @@ use Rattle.cfg_layer.proofs.Planning.{not_itself}
 
 -- The function itself, a node that is walked in it, or another.
 pub data IsSite (graph : PlainGraph) (method x : ℕ) (construct : Construct) : Type 0 where
-  top : x ≡ method → IsFunctionOf graph method construct → IsSite graph method x construct
-  walks : (node : PlainNode) → slice_get graph.nodes x ≡ Some node → IsWalked graph method x → IsConstructOf graph method x (kind_of node) construct → IsSite graph method x construct
-  other : IsUnwalked construct → IsSite graph method x construct
+  at_top : x ≡ method → IsFunctionOf graph method construct → IsSite graph method x construct
+  at_walked : (node : PlainNode) → slice_get graph.nodes x ≡ Some node → IsWalked graph method x → IsConstructOf graph method x (kind_of node) construct → IsSite graph method x construct
+  at_other : IsUnwalked construct → IsSite graph method x construct
 
 read : {X : Type 0} (xs : List X) (k : ℕ) → k < length xs → (x : X) × (slice_get xs k ≡ Some x)
 read [] k h = absurd (omega arith)
@@ -49,11 +49,11 @@ site graph method plan p x construct e = by_number (x == method) refl where
   by_walk true t n =
       let w : IsWalked graph method x = (tells_walked graph method x).yes t in
       let (node, is) = read graph.nodes x inside in
-      IsSite.walks node is w (p.walked x node construct w is e)
-  by_walk false f n = IsSite.other (p.others x construct n (λ w. (let t : is_walked graph method x ≡ true = (tells_walked graph method x).told w in cc)) e)
+      at_walked node is w (p.walked x node construct w is e)
+  by_walk false f n = at_other (p.others x construct n (λ w. (let t : is_walked graph method x ≡ true = (tells_walked graph method x).told w in cc)) e)
 
   by_number : (b : Bool) → (x == method) ≡ b → IsSite graph method x construct
-  by_number true t = let s : x ≡ method = eqb-true x method t in IsSite.top s (p.function construct (subst (λ (n : ℕ). slice_get plan n ≡ Some construct) s e))
+  by_number true t = let s : x ≡ method = eqb-true x method t in at_top s (p.function construct (subst (λ (n : ℕ). slice_get plan n ≡ Some construct) s e))
   by_number false f = by_walk (is_walked graph method x) refl (not_top f)
 
 -- ---- Parts.
@@ -142,9 +142,9 @@ parts_of_kind graph node return_jump parts h = parts_numbered graph node 1 parts
 parts_of_kind graph node _ parts h = parts_none graph node parts h
 
 pub site_parts : (graph : PlainGraph) (method x : ℕ) (construct : Construct) → IsSite graph method x construct → AreParts graph x construct.parts
-site_parts graph method x construct (IsSite.top s f) = subst (λ (n : ℕ). AreParts graph n construct.parts) (sym s) (parts_function graph method construct f)
-site_parts graph method x construct (IsSite.walks node is w c) = parts_of_kind graph x (kind_of node) construct.parts c.parts
-site_parts graph method x construct (IsSite.other u) = parts_none graph x construct.parts u.no_parts
+site_parts graph method x construct (at_top s f) = subst (λ (n : ℕ). AreParts graph n construct.parts) (sym s) (parts_function graph method construct f)
+site_parts graph method x construct (at_walked node is w c) = parts_of_kind graph x (kind_of node) construct.parts c.parts
+site_parts graph method x construct (at_other u) = parts_none graph x construct.parts u.no_parts
 
 -- ---- The plan.
 
@@ -185,12 +185,12 @@ jumped_to graph method plan p target w at = by (read plan target (let l : target
       subst (λ (o : Option Construct). RuleAt o rule.JumpTarget) (sym e) r
 
 jumps : (graph : PlainGraph) (method : ℕ) (plan : List Construct) → IsPlanOf graph method plan → (x target : ℕ) → JumpsTo plan x target → HasRule plan target rule.JumpTarget
-unfolding JumpsTo
+unfolding JumpsTo IsIn
 jumps graph method plan p x target j = by (slice_get plan x) refl j where
   at : (construct : Construct) → IsSite graph method x construct → IsIn construct.targets target → HasRule plan target rule.JumpTarget
-  at construct (IsSite.top s f) i = absurd (subst (λ (ts : List ℕ). IsIn ts target) f.no_targets i)
-  at construct (IsSite.walks node is w c) i = let l = (c.jumps.targets target).0 i in jumped_to graph method plan p target (target_walked graph method x target l) (target_label graph method x target l)
-  at construct (IsSite.other u) i = absurd (subst (λ (ts : List ℕ). IsIn ts target) u.no_targets i)
+  at construct (at_top s f) i = absurd (subst (λ (ts : List ℕ). IsIn ts target) f.no_targets i)
+  at construct (at_walked node is w c) i = let l = (c.jumps.targets target).0 i in jumped_to graph method plan p target (target_walked graph method x target l) (target_label graph method x target l)
+  at construct (at_other u) i = absurd (subst (λ (ts : List ℕ). IsIn ts target) u.no_targets i)
 
   by : (o : Option Construct) → slice_get plan x ≡ o → JumpsAt o target → HasRule plan target rule.JumpTarget
   by None s k = absurd k

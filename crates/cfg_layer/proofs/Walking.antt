@@ -7,7 +7,7 @@ use Rattle.cpg_schema.specs.declared.label.Label.{Label}
 use Rattle.cpg_schema.specs.declared.label.Label.TheVariants as label
 use Rattle.cpg_schema.specs.Names.{kind_rank}
 use Rattle.cpg_schema.specs.Graph.{PlainEdge, PlainGraph, PlainNode}
-use Rattle.cpg_schema.specs.Shape.{IsAbove, IsAstEdgeAt}
+use Rattle.cpg_schema.specs.Shape.{IsAbove, IsAstEdgeAt, child as child_of, descendant}
 use Rattle.graph_parts.specs.Finds.{Finds, IsLeast}
 use Rattle.graph_parts.specs.Parts.{HasEdge, HasLabel, IsChild, IsChildOf, IsNodeWith, IsPart}
 use Rattle.graph_parts.specs.Standing.{IsMethodAbove}
@@ -17,7 +17,7 @@ use Rattle.cfg_edges.specs.Reaching.{IsReached, here, on, reaches}
 use Rattle.cfg_edges.proofs.Reached.{TellsSame, reached, reaches_all}
 use Rattle.cfg_edges.proofs.Bools.{and_both, both_and, or_either, or_left, or_right}
 use Rattle.cfg_layer.specs.Kinds.{Kind, HasKind, IsLoop, IsLoopKind, IsLeft, IsPassedOver, IsTargetNamed, IsDefault, IsCase, IsGotoOf, kind_of, function, primary, passed, call, short_circuit, conditional, size_of, block, if_statement, while_loop, do_loop, for_loop, switch_statement, jump_target, goto_jump, break_jump, continue_jump, return_jump, unknown}
-use Rattle.cfg_layer.specs.Walked.{IsUnevaluated, IsWalked, IsWalkedWith, operand, constant}
+use Rattle.cfg_layer.specs.Walked.{IsUnevaluated, IsWalked, IsWalkedWith, operand, constant, body as walk_body, below as walk_below}
 use Rattle.cfg_layer.specs.Jumps.{IsInnermost, IsLabelIn, LeadsToLabel, BelongsToSwitch, LeadsToCase, IsBreakOf, IsContinueOf, IsDefaultOf}
 use Rattle.cfg_layer.specs.Tested.{node_passes, least_node, is_number, is_kind, is_loop, is_left, is_passed_over, is_target_named, is_default, is_case, is_method, is_method_label, part_at, block_at, is_unevaluated, is_ast, is_step, steps_by, steps_down, is_walked_from, is_walked, ast_steps, leads_down, is_above, is_none, is_between, is_innermost, is_label_in, label_in, is_label_of, leads_to_label, belongs, leads_to_case, is_default_of, leads_to, is_break_of, is_continue_of}
 use Rattle.cfg_layer.proofs.Telling.{Tells, tells_both, tells_either, tells_not, tells_as, tells_equal, tells_name, tells_kind, tells_node, tells_least, tells_none, tells_found, one_least, node_within, part_found, block_found}
@@ -129,13 +129,13 @@ tells_step graph edge = tells_both (tells_ast edge) (tells_both (tells_not (tell
 walked_on : (graph : PlainGraph) (method p q : ℕ) → IsWalked graph method p → IsStepBy (is_step graph) graph.edges p q → IsWalked graph method q
 walked_on graph method p q w (k, edge, is, t, f, g) =
     let step = (tells_step graph edge).yes t in
-    IsWalked.below p q w
+    walk_below p q w
       (record { position = k; edge = edge; edge_is = is; kind_is = step.0; from_is = f; to_is = g })
       (subst (λ (v : ℕ). ¬ IsNodeWith graph IsPassedOver v) f step.1.0)
       (subst (λ (v : ℕ). ¬ IsUnevaluated graph p v) g (subst (λ (v : ℕ). ¬ IsUnevaluated graph v edge.to) f step.1.1))
 
 walked_from : (graph : PlainGraph) (method body node : ℕ) → IsChildOf graph label.Block method body → IsReached (steps_down graph) body node → IsWalked graph method node
-walked_from graph method body node b here = IsWalked.body body b
+walked_from graph method body node b here = walk_body body b
 walked_from graph method body node b (on p q r i) = walked_on graph method p q (walked_from graph method body p b r) (step_edge (is_step graph) graph.edges p q i)
 
 abbrev IsFromBody : PlainGraph → ℕ → ℕ → Type 0
@@ -145,8 +145,8 @@ from_on : (graph : PlainGraph) (method p q : ℕ) → IsFromBody graph method p 
 from_on graph method p q (body, b, r) c np nu = (body, b, on p q r (step_in graph (is_step graph) p q c.position c.edge c.edge_is ((tells_step graph c.edge).told (c.kind_is, (subst (λ (v : ℕ). ¬ IsNodeWith graph IsPassedOver v) (sym c.from_is) np, subst (λ (v : ℕ). ¬ IsUnevaluated graph v c.edge.to) (sym c.from_is) (subst (λ (v : ℕ). ¬ IsUnevaluated graph p v) (sym c.to_is) nu)))) c.from_is c.to_is))
 
 pub from_body : (graph : PlainGraph) (method node : ℕ) → IsWalked graph method node → IsFromBody graph method node
-from_body graph method node (IsWalked.body n b) = (n, b, here)
-from_body graph method node (IsWalked.below p q w c np nu) = from_on graph method p q (from_body graph method p w) c np nu
+from_body graph method node (walk_body n b) = (n, b, here)
+from_body graph method node (walk_below p q w c np nu) = from_on graph method p q (from_body graph method p w) c np nu
 
 pub tells_walked : (graph : PlainGraph) (method node : ℕ) → Tells (is_walked graph method node) (IsWalked graph method node)
 unfolding is_walked
@@ -189,15 +189,15 @@ ast_edge : (graph : PlainGraph) (p q : ℕ) → IsStepBy is_ast graph.edges p q 
 ast_edge graph p q (k, edge, is, t, f, g) = (k, record { edge = edge; edge_is = is; kind = (tells_ast edge).yes t; from = f; to = g })
 
 above_by : (graph : PlainGraph) (ancestor c node : ℕ) → IsIn (ast_steps graph) (ancestor, c) → IsReached (ast_steps graph) c node → IsAbove graph.edges ancestor node
-above_by graph ancestor c node i here = let at = ast_edge graph ancestor c (step_edge is_ast graph.edges ancestor c i) in IsAbove.child at.0 c at.1
-above_by graph ancestor c node i (on p q r j) = let at = ast_edge graph p q (step_edge is_ast graph.edges p q j) in IsAbove.descendant at.0 p q (above_by graph ancestor c p i r) at.1
+above_by graph ancestor c node i here = let at = ast_edge graph ancestor c (step_edge is_ast graph.edges ancestor c i) in child_of at.0 c at.1
+above_by graph ancestor c node i (on p q r j) = let at = ast_edge graph p q (step_edge is_ast graph.edges p q j) in descendant at.0 p q (above_by graph ancestor c p i r) at.1
 
 ast_step : (graph : PlainGraph) (k p q : ℕ) → IsAstEdgeAt graph.edges k p q → IsIn (ast_steps graph) (p, q)
 ast_step graph k p q at = step_in graph is_ast p q k at.edge at.edge_is ((tells_ast at.edge).told at.kind) at.from at.to
 
 by_above : (graph : PlainGraph) (ancestor node : ℕ) → IsAbove graph.edges ancestor node → IsLedDown (ast_steps graph) (ast_steps graph) ancestor node
-by_above graph ancestor node (IsAbove.child k n at) = (n, ast_step graph k ancestor n at, here)
-by_above graph ancestor node (IsAbove.descendant k p n above at) = more (by_above graph ancestor p above) where
+by_above graph ancestor node (child_of k n at) = (n, ast_step graph k ancestor n at, here)
+by_above graph ancestor node (descendant k p n above at) = more (by_above graph ancestor p above) where
   more : IsLedDown (ast_steps graph) (ast_steps graph) ancestor p → IsLedDown (ast_steps graph) (ast_steps graph) ancestor n
   more (c, i, r) = (c, i, on p n r (ast_step graph k p n at))
 
