@@ -24,6 +24,7 @@ use Rattle.cfg_rules.specs.Plan.{Construct, Breaks, BreaksAt, Continues, Continu
 use Rattle.cfg_rules.specs.Walker.{Flows}
 use Rattle.cfg_flow.specs.Edges.{AreFlow}
 use Rattle.cfg_edges.specs.Edges.{IsWithin, edges_within}
+use Rattle.cfg_edges.proofs.Bools.{both_and, or_left}
 use Rattle.cfg_edges.proofs.Rising.{edges_are_flow}
 use Rattle.cfg_layer.specs.Kinds.{Kind, kind_of}
 use Rattle.cfg_layer.specs.Walked.{HasBody}
@@ -140,9 +141,6 @@ in_at (y ∷ xs) (suc k) x e = inr (in_at xs k x e)
 
 -- ---- The schema.
 
-among_more : (l other : Label) (labels : List Label) → is_among l labels ≡ true → is_among l (other ∷ labels) ≡ true
-among_more l other labels e = ?
-
 from_label : (graph : PlainGraph) (method a : ℕ) → HasBody graph method → IsFrom graph method a → IsNodeWith graph (λ at. is_among at.label (label.Method ∷ step) ≡ true) a
 from_label graph method a h (inl s) = subst (IsNodeWith graph (λ at. is_among at.label (label.Method ∷ step) ≡ true)) (sym s) (record { node = h.is_method.node; node_is = h.is_method.node_is; has = subst (λ (l : Label). is_among l (label.Method ∷ step) ≡ true) (sym h.is_method.has) refl })
 from_label graph method a h (inr n) = record { node = n.node; node_is = n.node_is; has = by n.node.label n.has } where
@@ -172,7 +170,7 @@ to_label graph method b (inl n) = record { node = n.node; node_is = n.node_is; h
 to_label graph method b (inr c) = let n = c.is.is_node in record { node = n.node; node_is = n.node_is; has = subst (λ (l : Label). is_among l (step ++ label.MethodReturn ∷ []) ≡ true) (sym n.has) refl }
 
 allowed_by : (one other : Label) → is_among one (label.Method ∷ step) ≡ true → is_among other (step ++ label.MethodReturn ∷ []) ≡ true → IsTrue (allows Cfg one other)
-allowed_by one other e f = ?
+allowed_by one other e f = or_left (is_among one (label.Method ∷ step) && is_among other (step ++ label.MethodReturn ∷ [])) false (both_and (is_among one (label.Method ∷ step)) (is_among other (step ++ label.MethodReturn ∷ [])) e f)
 
 edge_among : (graph : PlainGraph) (method : ℕ) → HasBody graph method → (edge : ℕ × ℕ) → IsFrom graph method edge.0 × IsTo graph method edge.1 → IsEdgeAmong (graph.nodes ++ []) (added_edge (length graph.nodes) (cfg_edge edge))
 edge_among graph method h edge (from, to) =

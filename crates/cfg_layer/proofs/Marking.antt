@@ -166,9 +166,9 @@ mark_number _ = 0
 
 module _ (graph : PlainGraph) (method : ℕ) (plan : List Construct) (p : IsPlanOf graph method plan) where
   arrow_at : (x : ℕ) (a : Arrow) → IsIn (arrows_at (slice_get plan x)) a → (c : Construct) × IsSite graph method x c × (slice_get plan x ≡ Some c) × IsIn (arrows c.rule (length c.parts)) a
+  unfolding IsIn
   arrow_at x a i = by (slice_get plan x) refl i where
     by : (o : Option Construct) → slice_get plan x ≡ o → IsIn (arrows_at o) a → (c : Construct) × IsSite graph method x c × (slice_get plan x ≡ Some c) × IsIn (arrows c.rule (length c.parts)) a
-    unfolding IsIn
     by None e i = absurd i
     by (Some c) e i = (c, site graph method plan p x c e, e, i)
 
