@@ -65,7 +65,7 @@ function_low : (graph : PlainGraph) (method : ℕ) → IsLow (length graph.nodes
 function_low graph method = record { ends = return_low graph method; breaks = nothing (length graph.nodes); continues = nothing (length graph.nodes) }
 
 walked_low : (graph : PlainGraph) (method x : ℕ) (kind : Kind) → IsLow (length graph.nodes) (walked_construct graph method x kind)
-walked_low graph method x kind = record { ends = return_low graph method; breaks = λ a i. all_high _ 0 (length graph.nodes) a i; continues = λ a i. all_high _ 0 (length graph.nodes) a i }
+walked_low graph method x kind = record { ends = return_low graph method; breaks = λ a i. (let l : a < 0 + length graph.nodes = all_high _ 0 (length graph.nodes) a i in omega arith); continues = λ a i. (let l : a < 0 + length graph.nodes = all_high _ 0 (length graph.nodes) a i in omega arith) }
 
 other_low : (count : ℕ) → IsLow count other_construct
 other_low count = record { ends = λ end e. cc; breaks = nothing count; continues = nothing count }

@@ -34,7 +34,7 @@ IsMarked unknown = ⊥
 IsMarked _ = Unit {0}
 
 -- The label of a node with a mark.
-abbrev HasStep : PlainNode → Type 0
+abbrev pub HasStep : PlainNode → Type 0
 HasStep at = is_among at.label step ≡ true
 
 marked_label : (at : PlainNode) → IsMarked (kind_of at) → HasStep at
@@ -77,15 +77,17 @@ quiet_order : (from : Tail) (k n : ℕ) → IsQuietTail from → AreQuiet (in_or
 quiet_order from k zero t = ((t, tt), tt)
 quiet_order from k (suc n) t = ((t, tt), quiet_order (out_of k) (k + 1) n tt)
 
-q1 : IsQuiet (arrow entry exit)
-q1 = (tt, tt)
-
 -- The rules of kinds without a mark.
-quiet_silent : AreQuiet (arrows rule.Silent 0)
-quiet_silent = ((tt, tt), tt)
-
 abbrev IsQuietRule : Rule → Type 0
 IsQuietRule r = (n : ℕ) → AreQuiet (arrows r n)
+
+quiet_for : (P : ℕ → Type 0) (r : Rule) → IsRuleBy P rule.For rule.Endless r → IsQuietRule r
+quiet_for P r (by_some y p) = λ n. ((tt, tt), ((tt, tt), ((tt, tt), ((tt, tt), ((tt, tt), ((tt, tt), tt))))))
+quiet_for P r (by_none p) = λ n. ((tt, tt), ((tt, tt), ((tt, tt), ((tt, tt), ((tt, tt), tt)))))
+
+quiet_switch : (P : ℕ → Type 0) (r : Rule) → IsRuleBy P rule.SwitchDefault rule.Switch r → IsQuietRule r
+quiet_switch P r (by_some y p) = λ n. ((tt, tt), ((tt, tt), ((tt, tt), tt)))
+quiet_switch P r (by_none p) = λ n. ((tt, tt), ((tt, tt), ((tt, tt), ((tt, tt), tt))))
 
 quiet_kind : (graph : PlainGraph) (method x : ℕ) (kind : Kind) (r : Rule) → IsRuleOf graph method x kind r → IsMarked kind ⊎ IsQuietRule r
 quiet_kind graph method x function r h = inr (subst IsQuietRule (sym h) (λ n. ((tt, tt), tt)))
@@ -94,14 +96,8 @@ quiet_kind graph method x block r h = inr (subst IsQuietRule (sym h) (λ n. quie
 quiet_kind graph method x if_statement r h = inr (subst IsQuietRule (sym h) (λ n. ((tt, tt), ((tt, tt), ((tt, tt), ((tt, tt), ((tt, tt), tt)))))))
 quiet_kind graph method x while_loop r h = inr (subst IsQuietRule (sym h) (λ n. ((tt, tt), ((tt, tt), ((tt, tt), ((tt, tt), tt))))))
 quiet_kind graph method x do_loop r h = inr (subst IsQuietRule (sym h) (λ n. ((tt, tt), ((tt, tt), ((tt, tt), ((tt, tt), tt))))))
-quiet_kind graph method x for_loop r h = inr (by r h) where
-  by : (r : Rule) → IsRuleBy _ rule.For rule.Endless r → IsQuietRule r
-  by r (by_some y p) = λ n. ((tt, tt), ((tt, tt), ((tt, tt), ((tt, tt), ((tt, tt), ((tt, tt), tt))))))
-  by r (by_none p) = λ n. ((tt, tt), ((tt, tt), ((tt, tt), ((tt, tt), ((tt, tt), tt)))))
-quiet_kind graph method x switch_statement r h = inr (by r h) where
-  by : (r : Rule) → IsRuleBy _ rule.SwitchDefault rule.Switch r → IsQuietRule r
-  by r (by_some y p) = λ n. ((tt, tt), ((tt, tt), ((tt, tt), tt)))
-  by r (by_none p) = λ n. ((tt, tt), ((tt, tt), ((tt, tt), ((tt, tt), tt))))
+quiet_kind graph method x for_loop r h = inr (quiet_for _ r h)
+quiet_kind graph method x switch_statement r h = inr (quiet_switch _ r h)
 quiet_kind graph method x unknown r h = inr (subst IsQuietRule (sym h) (λ n. ((tt, tt), ((tt, tt), ((tt, tt), tt)))))
 quiet_kind graph method x _ r h = inl tt
 
