@@ -1,41 +1,40 @@
 -- What the functions of a graph add fits it, and leaves it shaped.
-use Rattle.std.proofs.Common.{ℕ, zero, suc, ◌≡◌, ◌+◌, ◌<◌, ◌⊎◌, inl, inr, Bool, true, false, cond, List, [], ◌∷◌, ◌++◌, Option, Some, None, Ok, map, slice_get, length, get_or, refl, sym, ◌∙◌, ap, subst, arith, IsTrue}
-use Rattle.std.specs.Prelude.{◌==◌, ◌&&◌, ◌||◌, not, ◌↔◌}
+use Rattle.std.proofs.Common.{ℕ, zero, suc, ◌≡◌, ◌+◌, ◌<◌, inl, inr, Bool, true, false, cond, List, [], ◌∷◌, ◌++◌, Option, Some, None, Ok, map, slice_get, length, get_or, refl, sym, subst, arith, IsTrue}
+use Rattle.std.specs.Prelude.{◌==◌, ◌&&◌, not, ◌↔◌}
 use Rattle.std.specs.List.{All, Contains}
 use Rattle.std.proofs.lemmas.List.{append-nil}
 use Rattle.std.proofs.lemmas.List.Elements.{All-map, All-nil}
-use Rattle.std.proofs.lemmas.Option.{slice_get_within, slice_get-get_or, get_or_from_slice_get}
+use Rattle.std.proofs.lemmas.Option.{slice_get-get_or, get_or_from_slice_get}
 use Rattle.cpg_schema.specs.declared.label.Label.{Label}
 use Rattle.cpg_schema.specs.declared.label.Label.TheVariants as label
 use Rattle.cpg_schema.specs.declared.edge_kind.EdgeKind.TheVariants.{Ast, Cfg}
 use Rattle.cpg_schema.specs.declared.caps.Caps.{Caps}
-use Rattle.cpg_schema.specs.Graph.{PlainEdge, PlainGraph, PlainNode}
+use Rattle.cpg_schema.specs.Graph.{PlainGraph, PlainNode}
 use Rattle.cpg_schema.specs.Schema.{allows, is_among, step}
-use Rattle.cpg_schema.specs.Deltas.{NewEdge, PlainDelta, Setting, added_edge, empty_delta}
-use Rattle.cpg_schema.specs.Fitting.{Fits, IsEdgeAmong, IsGraph, IsOldEnd, IsNewSetting, PartsFit, AreOfOneKey}
+use Rattle.cpg_schema.specs.Deltas.{NewEdge, added_edge, empty_delta}
+use Rattle.cpg_schema.specs.Fitting.{Fits, IsEdgeAmong, IsGraph, IsOldEnd, PartsFit}
 use Rattle.cpg_schema.specs.Sequence.{seq}
 use Rattle.cpg_schema.specs.Shape.{IsShaped}
 use Rattle.cpg_schema.proofs.Apart.{apart_none}
 use Rattle.graph_delta.proofs.Shaping.{stays_shaped}
-use Rattle.graph_parts.specs.Finds.{Finds, IsLeast}
+use Rattle.graph_parts.specs.Finds.{Finds}
 use Rattle.graph_parts.specs.Parts.{HasLabel, IsChildOf, IsNodeWith}
 use Rattle.cfg_rules.specs.Member.{IsIn}
 use Rattle.cfg_rules.specs.Plan.{Construct, Breaks, BreaksAt, Continues, ContinuesAt, end_of, end_at}
-use Rattle.cfg_rules.specs.Walker.{Flows}
 use Rattle.cfg_flow.specs.Edges.{AreFlow}
-use Rattle.cfg_edges.specs.Edges.{IsWithin, edges_within}
+use Rattle.cfg_edges.specs.Edges.{IsWithin}
 use Rattle.cfg_edges.proofs.Bools.{both_and, or_left}
 use Rattle.cfg_edges.proofs.Rising.{edges_are_flow}
 use Rattle.cfg_layer.specs.Kinds.{Kind, kind_of}
 use Rattle.cfg_layer.specs.Walked.{HasBody}
 use Rattle.cfg_layer.specs.Plans.{AreFlowOf, IsPlanOf}
-use Rattle.cfg_layer.specs.Tested.{block_at, has_edge, is_method, is_none, is_walked, node_passes, return_at}
-use Rattle.cfg_layer.specs.Planned.{all_from, all_nodes, construct_of, flow_of, function_construct, other_construct, plan_from, plan_of, walked_construct}
+use Rattle.cfg_layer.specs.Tested.{block_at, is_method, is_none, is_walked, return_at}
+use Rattle.cfg_layer.specs.Planned.{all_from, construct_of, flow_of, function_construct, other_construct, plan_of, walked_construct}
 use Rattle.cfg_layer.specs.Adds.{added_by, cfg_edge, flow_delta, has_body, methods_of, part_delta}
 use Rattle.cfg_layer.proofs.Telling.{Tells, tells_as, tells_both, tells_node, node_within, block_found, return_found}
 use Rattle.cfg_layer.proofs.Walking.{tells_method}
-use Rattle.cfg_layer.proofs.Planning.{all_is, all_tell, is_plan_of, planned}
-use Rattle.cfg_layer.proofs.Marking.{IsFrom, IsTo, HasStep, flows_among}
+use Rattle.cfg_layer.proofs.Planning.{all_tell, is_plan_of, planned}
+use Rattle.cfg_layer.proofs.Marking.{IsFrom, IsTo, flows_among}
 
 -- ---- The plan speaks of nodes alone.
 

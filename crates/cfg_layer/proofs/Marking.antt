@@ -1,21 +1,19 @@
 -- Which nodes control flows from and to: those of which the schema allows it.
-use Rattle.std.proofs.Common.{ℕ, zero, suc, ◌≡◌, ◌+◌, ◌<◌, ◌⊎◌, inl, inr, Bool, true, false, List, [], ◌∷◌, ◌++◌, Option, Some, None, slice_get, length, refl, sym, ◌∙◌, ap, subst, arith}
-use Rattle.std.proofs.lemmas.Option.{slice_get_within}
+use Rattle.std.proofs.Common.{ℕ, zero, suc, ◌≡◌, ◌+◌, ◌⊎◌, inl, inr, true, List, [], ◌∷◌, Option, Some, None, slice_get, length, refl, sym, ◌∙◌, ap, subst}
 use Rattle.cpg_schema.specs.declared.label.Label.{Label}
 use Rattle.cpg_schema.specs.declared.label.Label.TheVariants as label
 use Rattle.cpg_schema.specs.Graph.{PlainGraph, PlainNode}
 use Rattle.cpg_schema.specs.Schema.{is_among, step}
 use Rattle.graph_parts.specs.Finds.{Finds}
-use Rattle.graph_parts.specs.Parts.{HasLabel, IsChildOf, IsNodeWith}
+use Rattle.graph_parts.specs.Parts.{IsChildOf, IsNodeWith}
 use Rattle.cfg_rules.specs.declared.rule.Rule.{Rule}
 use Rattle.cfg_rules.specs.declared.rule.Rule.TheVariants as rule
 use Rattle.cfg_rules.specs.Member.{IsIn}
 use Rattle.cfg_rules.specs.Rules.{Tail, entry, out_of, stop, Head, into, mark, jump, finish, exit, Arrow, arrow, arrows, in_order, CanBreak, CanContinue}
 use Rattle.cfg_rules.specs.Plan.{Construct, HasArrow, arrows_at, Breaks, BreaksAt, Continues, ContinuesAt, end_of, end_at}
-use Rattle.cfg_rules.specs.Walker.{node, gap, Position, enter, leave, mark_of, HeadAt, Step, by_rule, past_gap, by_break, by_continue, Runs, first, then, Flows, tail_position}
-use Rattle.cfg_layer.specs.Kinds.{Kind, HasKind, kind_of, function, primary, passed, call, short_circuit, conditional, size_of, block, if_statement, while_loop, do_loop, for_loop, switch_statement, jump_target, goto_jump, break_jump, continue_jump, return_jump, unknown}
-use Rattle.cfg_layer.specs.Walked.{HasBody, IsWalked}
-use Rattle.cfg_layer.specs.Constructs.{IsRuleBy, some as by_some, none as by_none, IsRuleOf, IsConstructOf, IsFunctionOf}
+use Rattle.cfg_rules.specs.Walker.{node, Position, enter, leave, mark_of, HeadAt, Step, by_rule, past_gap, by_break, by_continue, Runs, first, then, Flows, tail_position}
+use Rattle.cfg_layer.specs.Kinds.{Kind, kind_of, function, passed, block, if_statement, while_loop, do_loop, for_loop, switch_statement, unknown}
+use Rattle.cfg_layer.specs.Constructs.{IsRuleBy, some as by_some, none as by_none, IsRuleOf, IsConstructOf}
 use Rattle.cfg_layer.specs.Plans.{IsUnwalked, IsPlanOf}
 use Rattle.cfg_layer.proofs.Trees.{IsSite, at_top, at_walked, at_other, site}
 

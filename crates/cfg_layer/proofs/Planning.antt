@@ -8,23 +8,22 @@ use Rattle.std.proofs.lemmas.Option.{slice_get_within, get_or_from_slice_get}
 use Rattle.std.proofs.lemmas.List.Elements.{All-get_or}
 use Rattle.cpg_schema.specs.declared.edge_kind.EdgeKind.{EdgeKind}
 use Rattle.cpg_schema.specs.declared.edge_kind.EdgeKind.TheVariants.{Ast}
-use Rattle.cpg_schema.specs.declared.label.Label.TheVariants as label
-use Rattle.cpg_schema.specs.Graph.{PlainEdge, PlainGraph, PlainNode}
+use Rattle.cpg_schema.specs.Graph.{PlainGraph, PlainNode}
 use Rattle.cpg_schema.specs.Fitting.{IsGraph, IsEdgeAmong}
 use Rattle.cpg_schema.specs.Shape.{IsAbove, IsShaped}
 use Rattle.graph_parts.specs.Finds.{Finds, IsLeast}
-use Rattle.graph_parts.specs.Parts.{HasEdge, IsArgument, IsChild, IsChildOf, IsNodeWith, IsPart}
+use Rattle.graph_parts.specs.Parts.{HasEdge, IsArgument, IsChild, IsPart}
 use Rattle.graph_parts.proofs.Tree.{above_child, above_further}
 use Rattle.cfg_rules.specs.declared.rule.Rule.{Rule}
 use Rattle.cfg_rules.specs.declared.rule.Rule.TheVariants as rule
 use Rattle.cfg_rules.specs.Member.{IsIn}
 use Rattle.cfg_rules.specs.Plan.{Construct}
-use Rattle.cfg_layer.specs.Kinds.{Kind, HasKind, IsTargetNamed, kind_of, function, primary, passed, call, short_circuit, conditional, size_of, block, if_statement, while_loop, do_loop, for_loop, switch_statement, jump_target, goto_jump, break_jump, continue_jump, return_jump, unknown}
-use Rattle.cfg_layer.specs.Walked.{HasBody, IsWalked, IsWalkedWith, body as walk_body, below as walk_below}
+use Rattle.cfg_layer.specs.Kinds.{Kind, IsTargetNamed, kind_of, function, primary, passed, call, short_circuit, conditional, size_of, block, if_statement, while_loop, do_loop, for_loop, switch_statement, jump_target, goto_jump, break_jump, continue_jump, return_jump, unknown}
+use Rattle.cfg_layer.specs.Walked.{HasBody, IsWalked, body as walk_body, below as walk_below}
 use Rattle.cfg_layer.specs.Jumps.{LeadsToLabel, LeadsToCase, IsBreakOf, IsContinueOf, IsDefaultOf}
-use Rattle.cfg_layer.specs.Constructs.{IsRuleBy, some as by_some, none as by_none, IsRuleOf, AreNumbered, AreArguments, AreChildren, AreOfTarget, ArePartsOf, AreJumpsOf, IsConstructOf, IsFunctionOf}
+use Rattle.cfg_layer.specs.Constructs.{IsRuleBy, some as by_some, none as by_none, IsRuleOf, AreNumbered, AreArguments, AreChildren, ArePartsOf, AreJumpsOf, IsConstructOf, IsFunctionOf}
 use Rattle.cfg_layer.specs.Plans.{IsUnwalked, IsPlanOf}
-use Rattle.cfg_layer.specs.Tested.{argument_at, block_at, has_edge, is_break_of, is_continue_of, is_default_of, is_walked, leads_to, least_node, part_at, return_at}
+use Rattle.cfg_layer.specs.Tested.{argument_at, block_at, has_edge, is_break_of, is_continue_of, is_default_of, is_walked, leads_to, least_node, part_at}
 use Rattle.cfg_layer.specs.Planned.{all_from, all_nodes, present, numbered_from, children, numbered, arguments, parts_of, rule_by, rule_of, walked_construct, function_construct, other_construct, construct_of, plan_from, plan_of}
 use Rattle.cfg_layer.proofs.Telling.{Tells, IsLeastOrNone, least_all, one_least, node_within, tells_edge, part_found, argument_found, block_found, return_found}
 use Rattle.cfg_layer.proofs.Walking.{tells_walked, tells_default_of, tells_break_of, tells_continue_of, tells_leads_to}

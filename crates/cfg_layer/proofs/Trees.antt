@@ -2,27 +2,23 @@
 use Rattle.std.proofs.Common.{ℕ, zero, suc, ◌≡◌, ◌+◌, ◌<◌, ◌≤◌, ◌⊎◌, inl, inr, Bool, true, false, List, [], ◌∷◌, Option, Some, None, slice_get, length, refl, sym, ◌∙◌, ap, subst, arith}
 use Rattle.std.specs.Prelude.{◌==◌}
 use Rattle.std.proofs.lemmas.Bool.{cases_lt, eqb-true, eq-eqb}
-use Rattle.std.proofs.lemmas.Option.{slice_get_within, slice_get-get_or}
+use Rattle.std.proofs.lemmas.Option.{slice_get_within}
 use Rattle.std.proofs.Math.Nat.{eq-or-lt_of_le}
-use Rattle.cpg_schema.specs.declared.label.Label.TheVariants as label
 use Rattle.cpg_schema.specs.Graph.{PlainGraph, PlainNode}
 use Rattle.cpg_schema.specs.Shape.{IsShaped}
-use Rattle.graph_parts.specs.Finds.{Finds, IsLeast}
-use Rattle.graph_parts.specs.Parts.{HasIndex, HasOrder, IsArgument, IsChild, IsChildOf, IsNodeWith, IsPart}
+use Rattle.graph_parts.specs.Finds.{Finds}
+use Rattle.graph_parts.specs.Parts.{HasIndex, HasOrder, IsArgument, IsChild, IsNodeWith, IsPart}
 use Rattle.graph_parts.proofs.Tree.{one_parent}
-use Rattle.cfg_rules.specs.declared.rule.Rule.{Rule}
 use Rattle.cfg_rules.specs.declared.rule.Rule.TheVariants as rule
 use Rattle.cfg_rules.specs.Member.{IsIn}
 use Rattle.cfg_rules.specs.Plan.{Construct, HasRule, IsPlan, JumpsTo, JumpsAt, RuleAt, part, parts_at, flat_part}
-use Rattle.cfg_layer.specs.Kinds.{Kind, HasKind, IsCase, IsDefault, IsTargetNamed, kind_of, function, primary, passed, call, short_circuit, conditional, size_of, block, if_statement, while_loop, do_loop, for_loop, switch_statement, jump_target, goto_jump, break_jump, continue_jump, return_jump, unknown}
-use Rattle.cfg_layer.specs.Walked.{HasBody, IsWalked}
+use Rattle.cfg_layer.specs.Kinds.{Kind, HasKind, IsCase, kind_of, call, short_circuit, conditional, block, if_statement, while_loop, do_loop, for_loop, switch_statement, jump_target, return_jump}
+use Rattle.cfg_layer.specs.Walked.{IsWalked}
 use Rattle.cfg_layer.specs.Jumps.{LeadsToLabel, LeadsToCase}
 use Rattle.cfg_layer.specs.Constructs.{IsRuleOf, AreNumbered, AreArguments, AreChildren, AreOfTarget, ArePartsOf, IsConstructOf, IsFunctionOf}
 use Rattle.cfg_layer.specs.Plans.{IsUnwalked, IsPlanOf}
 use Rattle.cfg_layer.specs.Tested.{is_walked}
-use Rattle.cfg_layer.proofs.Telling.{node_within}
 use Rattle.cfg_layer.proofs.Walking.{tells_walked}
-use Rattle.cfg_layer.proofs.Planning.{not_itself}
 
 -- ---- What a node of a plan is.
 

@@ -1,6 +1,6 @@
 -- The tests of the walk, of what is around a node and of jumps tell what is so.
-use Rattle.std.proofs.Common.{ℕ, zero, suc, ◌≡◌, ◌<◌, ◌⊎◌, inl, inr, Bool, true, false, cond, List, [], ◌∷◌, Option, Some, None, slice_get, length, refl, sym, ap, subst, arith}
-use Rattle.std.specs.Prelude.{◌==◌, ◌&&◌, ◌||◌, nat_eq, codes}
+use Rattle.std.proofs.Common.{ℕ, zero, suc, ◌≡◌, ◌⊎◌, inl, inr, Bool, true, false, cond, List, [], ◌∷◌, Option, Some, None, slice_get, refl, sym, ap, subst}
+use Rattle.std.specs.Prelude.{◌==◌, ◌&&◌, nat_eq, codes}
 use Rattle.std.proofs.lemmas.Bool.{eqb-true, eq-eqb}
 use Rattle.cpg_schema.specs.declared.edge_kind.EdgeKind.TheVariants.{Ast}
 use Rattle.cpg_schema.specs.declared.label.Label.{Label}
@@ -9,17 +9,16 @@ use Rattle.cpg_schema.specs.Names.{kind_rank}
 use Rattle.cpg_schema.specs.Graph.{PlainEdge, PlainGraph, PlainNode}
 use Rattle.cpg_schema.specs.Shape.{IsAbove, IsAstEdgeAt, child as child_of, descendant}
 use Rattle.graph_parts.specs.Finds.{Finds, IsLeast}
-use Rattle.graph_parts.specs.Parts.{HasEdge, HasLabel, IsChild, IsChildOf, IsNodeWith, IsPart}
-use Rattle.graph_parts.specs.Standing.{IsMethodAbove}
+use Rattle.graph_parts.specs.Parts.{HasLabel, IsChild, IsChildOf, IsNodeWith, IsPart}
 use Rattle.graph_parts.proofs.KindRank.{kind_from_rank}
 use Rattle.cfg_rules.specs.Member.{IsIn}
 use Rattle.cfg_edges.specs.Reaching.{IsReached, here, on, reaches}
 use Rattle.cfg_edges.proofs.Reached.{TellsSame, reached, reaches_all}
 use Rattle.cfg_edges.proofs.Bools.{and_both, both_and, or_either, or_left, or_right}
-use Rattle.cfg_layer.specs.Kinds.{Kind, HasKind, IsLoop, IsLoopKind, IsLeft, IsPassedOver, IsTargetNamed, IsDefault, IsCase, IsGotoOf, kind_of, function, primary, passed, call, short_circuit, conditional, size_of, block, if_statement, while_loop, do_loop, for_loop, switch_statement, jump_target, goto_jump, break_jump, continue_jump, return_jump, unknown}
+use Rattle.cfg_layer.specs.Kinds.{Kind, HasKind, IsLoop, IsLoopKind, IsLeft, IsPassedOver, IsTargetNamed, IsDefault, IsCase, kind_of, function, passed, size_of, while_loop, do_loop, for_loop, switch_statement, jump_target, goto_jump, break_jump, continue_jump}
 use Rattle.cfg_layer.specs.Walked.{IsUnevaluated, IsWalked, IsWalkedWith, operand, constant, body as walk_body, below as walk_below}
-use Rattle.cfg_layer.specs.Jumps.{IsInnermost, IsLabelIn, LeadsToLabel, BelongsToSwitch, LeadsToCase, IsBreakOf, IsContinueOf, IsDefaultOf}
-use Rattle.cfg_layer.specs.Tested.{node_passes, least_node, is_number, is_kind, is_loop, is_left, is_passed_over, is_target_named, is_default, is_case, is_method, is_method_label, part_at, block_at, is_unevaluated, is_ast, is_step, steps_by, steps_down, is_walked_from, is_walked, ast_steps, leads_down, is_above, is_none, is_between, is_innermost, is_label_in, label_in, is_label_of, leads_to_label, belongs, leads_to_case, is_default_of, leads_to, is_break_of, is_continue_of}
+use Rattle.cfg_layer.specs.Jumps.{IsInnermost, IsLabelIn, LeadsToLabel, LeadsToCase, IsBreakOf, IsContinueOf, IsDefaultOf}
+use Rattle.cfg_layer.specs.Tested.{is_number, is_kind, is_loop, is_left, is_passed_over, is_target_named, is_default, is_case, is_method, is_method_label, part_at, block_at, is_unevaluated, is_ast, is_step, steps_by, steps_down, is_walked_from, is_walked, ast_steps, leads_down, is_above, is_between, is_innermost, is_label_in, label_in, is_label_of, leads_to_label, belongs, leads_to_case, is_default_of, leads_to, is_break_of, is_continue_of}
 use Rattle.cfg_layer.proofs.Telling.{Tells, tells_both, tells_either, tells_not, tells_as, tells_equal, tells_name, tells_kind, tells_node, tells_least, tells_none, tells_found, one_least, node_within, part_found, block_found}
 
 -- ---- Kinds.
@@ -130,9 +129,9 @@ walked_on : (graph : PlainGraph) (method p q : ℕ) → IsWalked graph method p 
 walked_on graph method p q w (k, edge, is, t, f, g) =
     let step = (tells_step graph edge).yes t in
     walk_below p q w
-      (record { position = k; edge = edge; edge_is = is; kind_is = step.0; from_is = f; to_is = g })
-      (subst (λ (v : ℕ). ¬ IsNodeWith graph IsPassedOver v) f step.1.0)
-      (subst (λ (v : ℕ). ¬ IsUnevaluated graph p v) g (subst (λ (v : ℕ). ¬ IsUnevaluated graph v edge.to) f step.1.1))
+    (record { position = k; edge = edge; edge_is = is; kind_is = step.0; from_is = f; to_is = g })
+    (subst (λ (v : ℕ). ¬ IsNodeWith graph IsPassedOver v) f step.1.0)
+    (subst (λ (v : ℕ). ¬ IsUnevaluated graph p v) g (subst (λ (v : ℕ). ¬ IsUnevaluated graph v edge.to) f step.1.1))
 
 walked_from : (graph : PlainGraph) (method body node : ℕ) → IsChildOf graph label.Block method body → IsReached (steps_down graph) body node → IsWalked graph method node
 walked_from graph method body node b here = walk_body body b

@@ -6,12 +6,12 @@ use Rattle.cpg_schema.specs.declared.label.Label.TheVariants.{MethodReturn}
 use Rattle.cpg_schema.specs.declared.label.Label.TheVariants as label
 use Rattle.cpg_schema.specs.Graph.{PlainGraph}
 use Rattle.graph_parts.specs.Finds.{Finds}
-use Rattle.graph_parts.specs.Parts.{IsArgument, IsChild, IsChildOf, IsNodeWith, IsPart}
+use Rattle.graph_parts.specs.Parts.{IsArgument, IsChild, IsChildOf, IsPart}
 use Rattle.cfg_rules.specs.declared.rule.Rule.{Rule}
 use Rattle.cfg_rules.specs.declared.rule.Rule.TheVariants as rule
 use Rattle.cfg_rules.specs.Member.{IsIn}
 use Rattle.cfg_rules.specs.Plan.{Construct}
-use Rattle.cfg_layer.specs.Kinds.{Kind, HasKind, function, primary, passed, call, short_circuit}
+use Rattle.cfg_layer.specs.Kinds.{Kind, function, primary, passed, call, short_circuit}
 use Rattle.cfg_layer.specs.Kinds.{conditional, size_of, block, if_statement, while_loop, do_loop}
 use Rattle.cfg_layer.specs.Kinds.{for_loop, switch_statement, jump_target, goto_jump, break_jump}
 use Rattle.cfg_layer.specs.Kinds.{continue_jump, return_jump, unknown}

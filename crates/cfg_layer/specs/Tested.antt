@@ -248,4 +248,5 @@ abbrev pub is_break_of : PlainGraph → ℕ → ℕ → ℕ → Bool
 is_break_of graph method node jump = belongs graph method (is_kind break_jump) is_left jump node
 
 abbrev pub is_continue_of : PlainGraph → ℕ → ℕ → ℕ → Bool
-is_continue_of graph method node jump = belongs graph method (is_kind continue_jump) is_loop jump node
+is_continue_of graph method node jump =
+    belongs graph method (is_kind continue_jump) is_loop jump node
