@@ -1,0 +1,3 @@
+pub mod SomeExpression
+pub mod SomeParts
+pub mod PartsAreRead

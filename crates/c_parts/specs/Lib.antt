@@ -1,0 +1,5 @@
+pub mod Ties
+pub mod PartNames
+pub mod PartRules
+pub mod PartReaders
+pub mod ExactParts
