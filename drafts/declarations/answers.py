@@ -1,5 +1,7 @@
 import os
-ROOT='crates/c_declarations/proofs/'
+ROOT='crates/'
+ABOVE={'is_at_qualifier','is_at_suffix','is_at_unnamed','is_at_either','is_at_abstract','is_at_some_either','is_at_params'}
+def home(f): return 'c_declarations' if f=='is_at_designator' else 'c_declarators' if f in ABOVE else 'c_specifiers'
 def put(path,s):
     os.makedirs(os.path.dirname(ROOT+path),exist_ok=True)
     if not os.path.exists(ROOT+path) or open(ROOT+path).read()!=s: open(ROOT+path,'w').write(s)
@@ -19,28 +21,28 @@ ATS=[('is_at_storage_class','is_storage_class','a_storage_class','D','refl'),
 import re
 for f,k,s,w,al in ATS:
     name=re.search(r'\b(a_\w+|begins_\w+)',s).group(1)
-    mod='Rattle.c_declarations.specs.DeclarationSets' if w=='D' else 'Rattle.c_syntax.specs.Sets'
+    mod='Rattle.c_specifiers.specs.DeclarationSets' if w=='D' else 'Rattle.c_syntax.specs.Sets'
     u='refl, sym, ◌∙◌' if al=='refl' else 'sym, ◌∙◌'
     if '∷' in s: u='◌∷◌, '+u
     t=f'use Rattle.std.proofs.Common.{{{u}}}\n'
     if 'mark ' in s: t+='use Rattle.c_lexer.specs.declared.mark.TheConstants.{MARK_STAR}\nuse Rattle.c_reading.specs.Terminals.{mark}\n'
     t+=f'use {mod}.{{{name}}}\nuse Rattle.c_syntax.proofs.Ahead.{{kind_ahead, nothing_ahead}}\n'
-    if al!='refl': t+=f'use Rattle.c_declarations.proofs.Unions.{{{al[1:].split()[0]}}}\n'
-    t+=f'use Rattle.c_declarations.proofs.steps.{f}.Goals as goal\n\n'
+    if al!='refl': t+=f'use Rattle.{"c_specifiers.proofs.Unions" if "word" in al else "c_declarators.proofs.Alike"}.{{{al[1:].split()[0]}}}\n'
+    t+=f'use Rattle.{home(f)}.proofs.steps.{f}.Goals as goal\n\n'
     t+=f'pub returns-in-Some : goal.returns-in-Some\nreturns-in-Some c = c.{k}.ensures ∙ kind_ahead {s} {al} c.args.source.now.cursor c.args.source.now.scopes c.in-Some.kind (sym c.in-Some.ensures)\n\n'
     t+=f'pub returns-in-None : goal.returns-in-None\nreturns-in-None c = nothing_ahead {s} {al} c.args.source.now.cursor c.args.source.now.scopes (sym c.in-None.ensures)\n'
-    put(f'steps/{f}/Answers.antt',t)
+    put(f'{home(f)}/proofs/steps/{f}/Answers.antt',t)
 def union(f,test,set_,other,uses,rest):
-    t=f'use Rattle.std.proofs.Common.{{sym, ◌∙◌{", ◌∷◌, []" if "∷" in set_ else ""}}}\nuse Rattle.c_syntax.specs.Scoping.{{input_from}}\n{uses}use Rattle.c_declarations.proofs.Unions.{{first_ahead, second_ahead}}\nuse Rattle.c_declarations.proofs.steps.{f}.Goals as goal\n\n'
+    t=f'use Rattle.std.proofs.Common.{{sym, ◌∙◌{", ◌∷◌, []" if "∷" in set_ else ""}}}\nuse Rattle.c_syntax.specs.Scoping.{{input_from}}\n{uses}use Rattle.c_specifiers.proofs.Unions.{{first_ahead, second_ahead}}\nuse Rattle.{home(f)}.proofs.steps.{f}.Goals as goal\n\n'
     t+=f'pub returns-then-{test} : goal.returns-then-{test}\nreturns-then-{test} c = first_ahead {set_} {other} (input_from c.args.source.now) (sym c.{test}.ensures ∙ c.if-{test}.true)\n\n'
     t+=f'pub returns : goal.returns\nreturns c = c.{rest}.ensures ∙ second_ahead {set_} {other} (input_from c.args.source.now) (sym c.{test}.ensures ∙ c.if-{test}.false)\n'
-    put(f'steps/{f}/Answers.antt',t)
-union('is_at_specifiers','is_at_typedef_name','a_typedef_name','(begins_word c.args.place)','use Rattle.c_syntax.specs.Sets.{a_typedef_name}\nuse Rattle.c_declarations.specs.DeclarationSets.{begins_word}\n','is_at_more_specifiers')
-union('is_at_params','is_at_mark','(mark MARK_RIGHT_PAREN ∷ [])','(begins_specifiers Parameter)','use Rattle.c_lexer.specs.declared.mark.TheConstants.{MARK_RIGHT_PAREN}\nuse Rattle.c_reading.specs.Terminals.{mark}\nuse Rattle.c_declarations.specs.declared.forms.Place.TheVariants.{Parameter}\nuse Rattle.c_declarations.specs.DeclarationSets.{begins_specifiers}\n','is_at_specifiers')
-put('kinds/begins_word/Answers.antt','''use Rattle.std.proofs.Common.{sym, ◌∙◌}
+    put(f'{home(f)}/proofs/steps/{f}/Answers.antt',t)
+union('is_at_specifiers','is_at_typedef_name','a_typedef_name','(begins_word c.args.place)','use Rattle.c_syntax.specs.Sets.{a_typedef_name}\nuse Rattle.c_specifiers.specs.DeclarationSets.{begins_word}\n','is_at_more_specifiers')
+union('is_at_params','is_at_mark','(mark MARK_RIGHT_PAREN ∷ [])','(begins_specifiers Parameter)','use Rattle.c_lexer.specs.declared.mark.TheConstants.{MARK_RIGHT_PAREN}\nuse Rattle.c_reading.specs.Terminals.{mark}\nuse Rattle.c_specifiers.specs.declared.forms.Place.TheVariants.{Parameter}\nuse Rattle.c_specifiers.specs.DeclarationSets.{begins_specifiers}\n','is_at_specifiers')
+put('c_specifiers/proofs/kinds/begins_word/Answers.antt','''use Rattle.std.proofs.Common.{sym, ◌∙◌}
 use Rattle.c_reading.specs.Terminals.{terminal}
-use Rattle.c_declarations.proofs.Unions.{word_by_specifier, word_by_modifier, word_by_atomic}
-use Rattle.c_declarations.proofs.kinds.begins_word.Goals as goal
+use Rattle.c_specifiers.proofs.Unions.{word_by_specifier, word_by_modifier, word_by_atomic}
+use Rattle.c_specifiers.proofs.kinds.begins_word.Goals as goal
 
 pub returns-then-begins_specifier : goal.returns-then-begins_specifier
 returns-then-begins_specifier c = word_by_specifier c.args.place (terminal c.args.kind) (sym c.begins_specifier.ensures ∙ c.if-begins_specifier.true)
@@ -56,11 +58,11 @@ returns c =
     (sym c.begins_modifier.ensures ∙ c.if-begins_modifier.false)
 ''')
 for f,call,st in (('expect_word','expect_any_name','any_name'),('expect_other_word','expect_name','a_name')):
-    put(f'steps/{f}/Answers.antt',f'''use Rattle.std.proofs.Common.{{rules, arith}}
+    put(f'{home(f)}/proofs/steps/{f}/Answers.antt',f'''use Rattle.std.proofs.Common.{{rules, arith}}
 use Rattle.std.proofs.lemmas.Grind.{{common_steps}}
 use Rattle.c_syntax.specs.Sets.{{{st}}}
-use Rattle.c_declarations.proofs.NamesAreRead.{{word_taken, word_halted}}
-use Rattle.c_declarations.proofs.steps.{f}.Goals as goal
+use Rattle.c_specifiers.proofs.NamesAreRead.{{word_taken, word_halted}}
+use Rattle.{home(f)}.proofs.steps.{f}.Goals as goal
 
 pub returns-in_err-token : goal.returns-in_err-token
 returns-in_err-token c =

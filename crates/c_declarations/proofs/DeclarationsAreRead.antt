@@ -22,21 +22,22 @@ use Rattle.c_reading.specs.Terminals.{TEXT, mark, key}
 use Rattle.c_reading.specs.Cursors.{number_of}
 use Rattle.c_syntax.specs.Scoping.{Part, PartReader}
 use Rattle.c_syntax.specs.declared.forms.AssignForm.TheVariants.{Whole, Constant}
-use Rattle.c_declarations.specs.declared.forms.Place.TheVariants.{Ordinary, Member}
-use Rattle.c_declarations.specs.declared.forms.Named.{Named}
+use Rattle.c_specifiers.specs.declared.forms.Place.TheVariants.{Ordinary, Member}
+use Rattle.c_specifiers.specs.declared.forms.Named.{Named}
 use Rattle.c_declarations.specs.declared.forms.Declarators.{Declarators}
-use Rattle.c_declarations.specs.DeclarationSets.{begins_specifiers, begins_suffix, begins_named}
-use Rattle.c_declarations.specs.DeclarationSteps.{with_name}
-use Rattle.c_declarations.specs.DeclarationForms.{no_pointers, unnamed_of, with_width, undefined, defined, no_declarators, with_declarator, declarators_to, names_of}
-use Rattle.c_declarations.specs.Inside.{Inside, InsideReaders}
+use Rattle.c_specifiers.specs.DeclarationSets.{begins_specifiers, begins_suffix, begins_named}
+use Rattle.c_specifiers.specs.DeclarationSteps.{with_name}
+use Rattle.c_declarators.specs.DeclaratorForms.{no_pointers, unnamed_of}
+use Rattle.c_declarations.specs.DeclarationForms.{with_width, undefined, defined, no_declarators, with_declarator, declarators_to, names_of}
+use Rattle.c_specifiers.specs.Inside.{Inside, InsideReaders}
 use Rattle.c_declarations.specs.DeclarationRules as lang
 use Rattle.c_declarations.specs.DeclarationReaders as read
 use Rattle.reading.proofs.ReadChanging.{read_changing}
 use Rattle.c_syntax.specs.Sets.{begins_assign}
 use Rattle.c_syntax.proofs.ExpressionsAreRead.{after_assign}
-use Rattle.c_declarations.proofs.DeclarationReadings.{Tokens, IsRead, InsideAreRead, sample, fixed, nothing, begins_member, after_specifiers}
-use Rattle.c_declarations.proofs.SpecifiersAreRead.{specifiers_is_read}
-use Rattle.c_declarations.proofs.DeclaratorsAreRead.{declarator_is_read}
+use Rattle.c_specifiers.proofs.DeclarationReadings.{Tokens, IsRead, InsideAreRead, sample, fixed, nothing, begins_member, after_specifiers}
+use Rattle.c_specifiers.proofs.SpecifiersAreRead.{specifiers_is_read}
+use Rattle.c_declarators.proofs.DeclaratorsAreRead.{declarator_is_read}
 use Rattle.c_declarations.proofs.InitialisersAreRead.{initialiser_is_read}
 
 -- ---- Sets behind `_Atomic` and elsewhere

@@ -22,14 +22,14 @@ use Rattle.c_syntax.specs.Scoping.{Part, PartReader}
 use Rattle.c_syntax.specs.Sets.{any_name}
 use Rattle.c_syntax.specs.declared.forms.AssignForm.TheVariants.{Whole, Constant}
 use Rattle.c_declarations.specs.declared.forms.Items.{Items}
-use Rattle.c_declarations.specs.DeclarationSets.{begins_designator}
+use Rattle.c_specifiers.specs.DeclarationSets.{begins_designator}
 use Rattle.c_declarations.specs.DeclarationForms.{first_item, with_item, items_to, item_of}
-use Rattle.c_declarations.specs.Inside.{Inside, InsideReaders}
+use Rattle.c_specifiers.specs.Inside.{Inside, InsideReaders}
 use Rattle.c_declarations.specs.InitialiserRules as lang
 use Rattle.c_declarations.specs.InitialiserReaders as read
 use Rattle.c_syntax.specs.Sets.{begins_assign}
 use Rattle.c_syntax.proofs.ExpressionsAreRead.{after_assign}
-use Rattle.c_declarations.proofs.DeclarationReadings.{Tokens, IsRead, InsideAreRead, sample, nothing, brace, begins_init, begins_item}
+use Rattle.c_specifiers.proofs.DeclarationReadings.{Tokens, IsRead, InsideAreRead, sample, nothing, brace, begins_init, begins_item}
 
 module _ (tokens : Tokens) {stage : Stage} {level room : ℕ} (fits : HasRoom stage level room) (inner : ℕ → Inside) (readers : InsideReaders)
     (ri : InsideAreRead tokens stage (0 < room) inner readers) where

@@ -1,7 +1,2 @@
-pub mod Unions
-pub mod NamesAreRead
-pub mod DeclarationReadings
-pub mod SpecifiersAreRead
-pub mod DeclaratorsAreRead
 pub mod InitialisersAreRead
 pub mod DeclarationsAreRead

@@ -12,21 +12,22 @@ use Rattle.c_tree.specs.declared.tree.Declaration.TheVariants as declaration_
 use Rattle.c_tree.specs.Forms.{sole}
 use Rattle.reading.specs.declared.turn.Turn.{Turn}
 use Rattle.reading.specs.declared.turn.Turn.TheVariants.{Again, Done}
-use Rattle.reading.specs.Readers.{◌>>=◌, pure, many, repeat}
+use Rattle.reading.specs.Readers.{pure, many, repeat}
 use Rattle.c_reading.specs.Terminals.{TEXT}
 use Rattle.c_syntax.specs.Scoping.{PartReader, terminal_of}
 use Rattle.c_syntax.specs.Steps.{expect_among, expect_mark, expect_key, where_mark, where_key}
 use Rattle.c_syntax.specs.declared.forms.AssignForm.TheVariants.{Constant}
-use Rattle.c_declarations.specs.declared.forms.Place.TheVariants.{Ordinary, Member}
-use Rattle.c_declarations.specs.declared.forms.Named.{Named}
+use Rattle.c_specifiers.specs.declared.forms.Place.TheVariants.{Ordinary, Member}
+use Rattle.c_specifiers.specs.declared.forms.Named.{Named}
 use Rattle.c_declarations.specs.declared.forms.Declarators.{Declarators}
-use Rattle.c_declarations.specs.DeclarationSteps.{declare}
-use Rattle.c_declarations.specs.DeclarationForms.{no_pointers, unnamed_of, with_width, undefined}
+use Rattle.c_specifiers.specs.DeclarationSteps.{declare}
+use Rattle.c_declarators.specs.DeclaratorForms.{no_pointers, unnamed_of}
+use Rattle.c_declarations.specs.DeclarationForms.{with_width, undefined}
 use Rattle.c_declarations.specs.DeclarationForms.{defined, no_declarators, with_declarator}
 use Rattle.c_declarations.specs.DeclarationForms.{declarators_to, names_of}
-use Rattle.c_declarations.specs.Inside.{InsideReaders}
-use Rattle.c_declarations.specs.SpecifierReaders.{specifiers}
-use Rattle.c_declarations.specs.DeclaratorReaders.{declarator}
+use Rattle.c_specifiers.specs.Inside.{InsideReaders}
+use Rattle.c_specifiers.specs.SpecifierReaders.{specifiers}
+use Rattle.c_declarators.specs.DeclaratorReaders.{declarator}
 use Rattle.c_declarations.specs.InitialiserReaders.{initialiser}
 
 module _ (room : ℕ) (inner : InsideReaders) where

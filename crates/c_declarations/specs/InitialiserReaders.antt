@@ -13,15 +13,15 @@ use Rattle.c_tree.specs.declared.tree.Designator.TheVariants as designator
 use Rattle.c_tree.specs.Forms.{sole}
 use Rattle.reading.specs.declared.turn.Turn.{Turn}
 use Rattle.reading.specs.declared.turn.Turn.TheVariants.{Again, Done}
-use Rattle.reading.specs.Readers.{◌>>=◌, pure, many, repeat}
+use Rattle.reading.specs.Readers.{pure, many, repeat}
 use Rattle.c_syntax.specs.Scoping.{PartReader, terminal_of}
 use Rattle.c_syntax.specs.Sets.{any_name}
 use Rattle.c_syntax.specs.Steps.{expect_among, expect_mark, where_among, where_mark}
 use Rattle.c_syntax.specs.declared.forms.AssignForm.TheVariants.{Constant}
 use Rattle.c_declarations.specs.declared.forms.Items.{Items}
-use Rattle.c_declarations.specs.DeclarationSets.{begins_designator}
+use Rattle.c_specifiers.specs.DeclarationSets.{begins_designator}
 use Rattle.c_declarations.specs.DeclarationForms.{first_item, with_item, items_to, item_of}
-use Rattle.c_declarations.specs.Inside.{InsideReaders}
+use Rattle.c_specifiers.specs.Inside.{InsideReaders}
 
 module _ (room : ℕ) (inner : InsideReaders) where
   -- ---- Items in braces

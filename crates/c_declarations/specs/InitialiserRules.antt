@@ -13,14 +13,14 @@ use Rattle.c_tree.specs.declared.tree.Designator.TheVariants as designator
 use Rattle.c_tree.specs.Forms.{sole}
 use Rattle.reading.specs.declared.turn.Turn.{Turn}
 use Rattle.reading.specs.declared.turn.Turn.TheVariants.{Again, Done}
-use Rattle.reading.specs.Rules.{◌>>=◌, ◌or◌, pure, many, repeat}
+use Rattle.reading.specs.Rules.{◌or◌, pure, many, repeat}
 use Rattle.c_syntax.specs.Scoping.{Part}
 use Rattle.c_syntax.specs.Steps.{one_among, one_mark}
 use Rattle.c_syntax.specs.Sets.{any_name}
 use Rattle.c_syntax.specs.declared.forms.AssignForm.TheVariants.{Constant}
 use Rattle.c_declarations.specs.declared.forms.Items.{Items}
 use Rattle.c_declarations.specs.DeclarationForms.{first_item, with_item, items_to, item_of}
-use Rattle.c_declarations.specs.Inside.{Inside}
+use Rattle.c_specifiers.specs.Inside.{Inside}
 
 module _ (turns level : ℕ) (inner : Inside) where
   -- ---- Items in braces

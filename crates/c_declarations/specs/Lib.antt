@@ -1,14 +1,5 @@
-pub mod Words
-pub mod DeclarationSets
-pub mod DeclarationSteps
 pub mod DeclarationForms
-pub mod Inside
-pub mod SpecifierRules
-pub mod SpecifierReaders
-pub mod DeclaratorRules
-pub mod DeclaratorReaders
 pub mod InitialiserRules
 pub mod InitialiserReaders
 pub mod DeclarationRules
 pub mod DeclarationReaders
-pub mod Gives

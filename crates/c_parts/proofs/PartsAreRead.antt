@@ -21,11 +21,11 @@ use Rattle.c_syntax.specs.ExpressionRules as expression
 use Rattle.c_syntax.specs.ExpressionReaders as expression_reader
 use Rattle.c_syntax.proofs.Readings as expressions
 use Rattle.c_syntax.proofs.ExpressionsAreRead.{after_assign, InnerAreRead, formed_is_read, inner_expr_is_read}
-use Rattle.c_declarations.specs.declared.forms.Place.TheVariants.{Parameter, Nameless}
-use Rattle.c_declarations.specs.DeclarationSets.{begins_specifiers}
-use Rattle.c_declarations.proofs.DeclarationReadings.{Tokens, IsRead, needed, InsideAreRead, begins_member, begins_group, begins_item}
-use Rattle.c_declarations.proofs.DeclarationReadings.{after_type_name, after_param, after_either, nothing}
-use Rattle.c_declarations.proofs.DeclaratorsAreRead.{type_name_is_read, param_is_read, grouped_is_read}
+use Rattle.c_specifiers.specs.declared.forms.Place.TheVariants.{Parameter, Nameless}
+use Rattle.c_specifiers.specs.DeclarationSets.{begins_specifiers}
+use Rattle.c_specifiers.proofs.DeclarationReadings.{Tokens, IsRead, needed, InsideAreRead, begins_member, begins_group, begins_item}
+use Rattle.c_specifiers.proofs.DeclarationReadings.{after_type_name, after_param, after_either, nothing}
+use Rattle.c_declarators.proofs.DeclaratorsAreRead.{type_name_is_read, param_is_read, grouped_is_read}
 use Rattle.c_declarations.proofs.InitialisersAreRead.{item_is_read}
 use Rattle.c_declarations.proofs.DeclarationsAreRead.{member_is_read, declaration_is_read}
 use Rattle.c_parts.specs.PartNames.{PartName, assigns, type_names, params, members, groups, items, Value}

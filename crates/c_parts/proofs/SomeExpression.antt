@@ -26,7 +26,7 @@ use Rattle.c_syntax.specs.Sets.{a_constant}
 use Rattle.c_syntax.specs.Forms.{flushed, chain_start, with_op, prefixed_of, is_target, begun_of, binary_of, arms_start, assign_of}
 use Rattle.c_syntax.specs.Inner.{Inner}
 use Rattle.c_syntax.specs.ExpressionRules as lang
-use Rattle.c_declarations.proofs.DeclarationReadings.{Tokens, sample}
+use Rattle.c_specifiers.proofs.DeclarationReadings.{Tokens, sample}
 
 module _ (tokens : Tokens) (level : ℕ) (scopes : OpenScopes) where
   abbrev pub number : Sample terminal_of tokens.IsToken a_constant scopes

@@ -26,22 +26,24 @@ use Rattle.c_syntax.specs.declared.forms.AssignForm.{AssignForm}
 use Rattle.c_syntax.specs.declared.forms.AssignForm.TheVariants.{Whole, Constant}
 use Rattle.c_syntax.specs.Scoping.{Part, terminal_of}
 use Rattle.c_syntax.specs.Sets.{any_name, a_basic_type}
-use Rattle.c_declarations.specs.Words.{word_of}
-use Rattle.c_declarations.specs.declared.forms.Place.{Place}
-use Rattle.c_declarations.specs.declared.forms.Place.TheVariants.{Parameter, Member, Nameless}
-use Rattle.c_declarations.specs.declared.forms.Naming.{Naming}
-use Rattle.c_declarations.specs.declared.forms.Naming.TheVariants as naming
-use Rattle.c_declarations.specs.declared.forms.Specified.{Specified}
-use Rattle.c_declarations.specs.declared.forms.Pointing.{Pointing}
-use Rattle.c_declarations.specs.declared.forms.Named.{Named}
-use Rattle.c_declarations.specs.DeclarationForms.{no_specifiers, with_spec, no_pointers, with_pointer, no_qualifiers, named_of, unnamed_of}
-use Rattle.c_declarations.specs.DeclarationForms.{named_param, type_name_of, no_declarators, declarators_to, names_of, item_of}
-use Rattle.c_declarations.specs.Inside.{Inside}
-use Rattle.c_declarations.specs.SpecifierRules as specifier
-use Rattle.c_declarations.specs.DeclaratorRules as declarator
+use Rattle.c_specifiers.specs.Words.{word_of}
+use Rattle.c_specifiers.specs.declared.forms.Place.{Place}
+use Rattle.c_specifiers.specs.declared.forms.Place.TheVariants.{Parameter, Member, Nameless}
+use Rattle.c_specifiers.specs.declared.forms.Naming.{Naming}
+use Rattle.c_specifiers.specs.declared.forms.Naming.TheVariants as naming
+use Rattle.c_specifiers.specs.declared.forms.Specified.{Specified}
+use Rattle.c_declarators.specs.declared.forms.Pointing.{Pointing}
+use Rattle.c_specifiers.specs.declared.forms.Named.{Named}
+use Rattle.c_specifiers.specs.SpecifierForms.{no_specifiers, with_spec}
+use Rattle.c_declarators.specs.DeclaratorForms.{no_pointers, with_pointer, no_qualifiers, named_of, unnamed_of}
+use Rattle.c_declarators.specs.DeclaratorForms.{named_param, type_name_of}
+use Rattle.c_declarations.specs.DeclarationForms.{no_declarators, declarators_to, names_of, item_of}
+use Rattle.c_specifiers.specs.Inside.{Inside}
+use Rattle.c_specifiers.specs.SpecifierRules as specifier
+use Rattle.c_declarators.specs.DeclaratorRules as declarator
 use Rattle.c_declarations.specs.InitialiserRules as initialiser
 use Rattle.c_declarations.specs.DeclarationRules as declaration_
-use Rattle.c_declarations.proofs.DeclarationReadings.{Tokens, sample}
+use Rattle.c_specifiers.proofs.DeclarationReadings.{Tokens, sample}
 use Rattle.c_parts.specs.PartNames.{PartName, assigns, type_names, params, members, groups, items, Value, inner_of, inside_of}
 use Rattle.c_parts.specs.PartRules.{body}
 use Rattle.c_parts.proofs.SomeExpression.{number, only, value_of, begun_with, number_is}

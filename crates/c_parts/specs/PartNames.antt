@@ -9,9 +9,9 @@ use Rattle.c_syntax.specs.declared.forms.AssignForm.{AssignForm}
 use Rattle.c_syntax.specs.declared.forms.AssignForm.TheVariants.{Whole}
 use Rattle.c_syntax.specs.Scoping.{Part, PartReader}
 use Rattle.c_syntax.specs.Inner.{Inner, InnerReaders}
-use Rattle.c_declarations.specs.declared.forms.Naming.{Naming}
-use Rattle.c_declarations.specs.declared.forms.Named.{Named}
-use Rattle.c_declarations.specs.Inside.{Inside, InsideReaders}
+use Rattle.c_specifiers.specs.declared.forms.Naming.{Naming}
+use Rattle.c_specifiers.specs.declared.forms.Named.{Named}
+use Rattle.c_specifiers.specs.Inside.{Inside, InsideReaders}
 
 pub data PartName : Type 0 where
   -- An assignment expression of the form (6.5.16).

@@ -8,7 +8,7 @@ use Rattle.reading.specs.Nesting.{nested_reader}
 use Rattle.c_syntax.specs.declared.forms.AssignForm.TheVariants.{Whole, Constant}
 use Rattle.c_syntax.specs.Scoping.{PartReader}
 use Rattle.c_syntax.specs.ExpressionReaders as expression
-use Rattle.c_declarations.specs.DeclaratorReaders as declarator
+use Rattle.c_declarators.specs.DeclaratorReaders as declarator
 use Rattle.c_declarations.specs.InitialiserReaders as initialiser
 use Rattle.c_declarations.specs.DeclarationReaders as declaration_
 use Rattle.c_parts.specs.PartNames.{PartName, assigns, type_names, params, members, groups, items}

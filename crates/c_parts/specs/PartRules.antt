@@ -8,7 +8,7 @@ use Rattle.reading.specs.Nesting.{nested}
 use Rattle.c_syntax.specs.declared.forms.AssignForm.TheVariants.{Whole, Constant}
 use Rattle.c_syntax.specs.Scoping.{Part}
 use Rattle.c_syntax.specs.ExpressionRules as expression
-use Rattle.c_declarations.specs.DeclaratorRules as declarator
+use Rattle.c_declarators.specs.DeclaratorRules as declarator
 use Rattle.c_declarations.specs.InitialiserRules as initialiser
 use Rattle.c_declarations.specs.DeclarationRules as declaration_
 use Rattle.c_parts.specs.PartNames.{PartName, assigns, type_names, params, members, groups, items}

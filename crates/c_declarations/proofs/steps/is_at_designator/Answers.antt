@@ -1,5 +1,5 @@
 use Rattle.std.proofs.Common.{refl, sym, ◌∙◌}
-use Rattle.c_declarations.specs.DeclarationSets.{begins_designator}
+use Rattle.c_specifiers.specs.DeclarationSets.{begins_designator}
 use Rattle.c_syntax.proofs.Ahead.{kind_ahead, nothing_ahead}
 use Rattle.c_declarations.proofs.steps.is_at_designator.Goals as goal
 
