@@ -12,7 +12,7 @@ use Rattle.c_tree.specs.declared.tree.Declaration.TheVariants as declaration_
 use Rattle.c_tree.specs.Forms.{sole}
 use Rattle.reading.specs.declared.turn.Turn.{Turn}
 use Rattle.reading.specs.declared.turn.Turn.TheVariants.{Again, Done}
-use Rattle.reading.specs.Rules.{◌or◌, pure, many, repeat}
+use Rattle.reading.specs.Rules.{◌>>=◌, ◌or◌, pure, many, repeat}
 use Rattle.c_reading.specs.Terminals.{TEXT}
 use Rattle.c_syntax.specs.Scoping.{Part}
 use Rattle.c_syntax.specs.Steps.{one_among, one_mark, one_key}

@@ -13,7 +13,7 @@ use Rattle.c_tree.specs.declared.tree.Designator.TheVariants as designator
 use Rattle.c_tree.specs.Forms.{sole}
 use Rattle.reading.specs.declared.turn.Turn.{Turn}
 use Rattle.reading.specs.declared.turn.Turn.TheVariants.{Again, Done}
-use Rattle.reading.specs.Readers.{pure, many, repeat}
+use Rattle.reading.specs.Readers.{◌>>=◌, pure, many, repeat}
 use Rattle.c_syntax.specs.Scoping.{PartReader, terminal_of}
 use Rattle.c_syntax.specs.Sets.{any_name}
 use Rattle.c_syntax.specs.Steps.{expect_among, expect_mark, where_among, where_mark}

@@ -13,7 +13,7 @@ use Rattle.c_tree.specs.declared.tree.Designator.TheVariants as designator
 use Rattle.c_tree.specs.Forms.{sole}
 use Rattle.reading.specs.declared.turn.Turn.{Turn}
 use Rattle.reading.specs.declared.turn.Turn.TheVariants.{Again, Done}
-use Rattle.reading.specs.Rules.{◌or◌, pure, many, repeat}
+use Rattle.reading.specs.Rules.{◌>>=◌, ◌or◌, pure, many, repeat}
 use Rattle.c_syntax.specs.Scoping.{Part}
 use Rattle.c_syntax.specs.Steps.{one_among, one_mark}
 use Rattle.c_syntax.specs.Sets.{any_name}

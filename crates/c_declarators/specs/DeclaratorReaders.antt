@@ -12,7 +12,7 @@ use Rattle.c_tree.specs.declared.tree.Suffix.{Suffix}
 use Rattle.c_tree.specs.declared.tree.Suffix.TheVariants as suffix
 use Rattle.reading.specs.declared.turn.Turn.{Turn}
 use Rattle.reading.specs.declared.turn.Turn.TheVariants.{Again, Done}
-use Rattle.reading.specs.Readers.{pure, many, repeat}
+use Rattle.reading.specs.Readers.{◌>>=◌, pure, many, repeat}
 use Rattle.c_reading.specs.Terminals.{mark}
 use Rattle.c_syntax.specs.Scoping.{PartReader, terminal_of}
 use Rattle.c_syntax.specs.Sets.{a_name, any_name}

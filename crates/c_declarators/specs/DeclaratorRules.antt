@@ -12,7 +12,7 @@ use Rattle.c_tree.specs.declared.tree.Suffix.{Suffix}
 use Rattle.c_tree.specs.declared.tree.Suffix.TheVariants as suffix
 use Rattle.reading.specs.declared.turn.Turn.{Turn}
 use Rattle.reading.specs.declared.turn.Turn.TheVariants.{Again, Done}
-use Rattle.reading.specs.Rules.{◌or◌, pure, many, repeat}
+use Rattle.reading.specs.Rules.{◌>>=◌, ◌or◌, pure, many, repeat}
 use Rattle.c_syntax.specs.Scoping.{Part}
 use Rattle.c_syntax.specs.Steps.{one_among, one_mark, one_key}
 use Rattle.c_syntax.specs.Sets.{a_name, any_name}

@@ -12,7 +12,7 @@ use Rattle.c_tree.specs.declared.tree.Enumerator.{Enumerator}
 use Rattle.c_tree.specs.Forms.{sole}
 use Rattle.reading.specs.declared.turn.Turn.{Turn}
 use Rattle.reading.specs.declared.turn.Turn.TheVariants.{Again, Done}
-use Rattle.reading.specs.Readers.{pure, many, repeat}
+use Rattle.reading.specs.Readers.{◌>>=◌, pure, many, repeat}
 use Rattle.c_syntax.specs.Scoping.{PartReader, terminal_of}
 use Rattle.c_syntax.specs.Sets.{any_name, a_typedef_name, a_basic_type}
 use Rattle.c_syntax.specs.Steps.{expect_among, expect_mark, expect_key, where_among, where_mark}

@@ -12,7 +12,7 @@ use Rattle.c_tree.specs.declared.tree.Enumerator.{Enumerator}
 use Rattle.c_tree.specs.Forms.{sole}
 use Rattle.reading.specs.declared.turn.Turn.{Turn}
 use Rattle.reading.specs.declared.turn.Turn.TheVariants.{Again, Done}
-use Rattle.reading.specs.Rules.{◌or◌, pure, many, repeat}
+use Rattle.reading.specs.Rules.{◌>>=◌, ◌or◌, pure, many, repeat}
 use Rattle.c_syntax.specs.Scoping.{Part}
 use Rattle.c_syntax.specs.Steps.{one_among, one_mark, one_key}
 use Rattle.c_syntax.specs.Sets.{any_name, a_typedef_name, a_basic_type}
