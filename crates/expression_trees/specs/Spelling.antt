@@ -25,11 +25,12 @@ IsToken token = IsLexeme token.lexeme
 abbrev pub scopes_behind : {Tree : Type 0} → Grammar Tree → OpenScopes → ℕ → List Lexeme → Tree →
     OpenScopes
 scopes_behind grammar scopes begin lexemes tree = after_events scopes (grammar.events
-    (λ token. kind_at lexemes (token - begin)) (λ token. spelling_at lexemes (token - begin)) tree)
+    (λ token. kind_at lexemes (token - begin))
+    (λ token. spelling_at lexemes (token - begin)) tree)
 
 -- The words of the rule and the trees of the grammar are the same: of tokens that are numbered from
--- some number on a word of the rule is a tree that they spell, and a tree that they spell is a word;
--- and what begins a word begins a tree.
+-- some number on a word of the rule is a tree that they spell, and each tree that they spell is a
+-- word; and what begins a word begins a tree.
 pub record AreItsTrees {Tree : Type 0} (rule : ℕ → Part Tree) (grammar : Grammar Tree) :
     Type 0 where
   pub trees : (scopes end : OpenScopes) (begin turns : ℕ) (lexemes : List Lexeme)
@@ -39,7 +40,8 @@ pub record AreItsTrees {Tree : Type 0} (rule : ℕ → Part Tree) (grammar : Gra
       (end ≡ scopes_behind grammar scopes begin lexemes tree)
   pub words : (scopes : OpenScopes) (begin : ℕ) (lexemes : List Lexeme) (tree : Tree) →
       IsTreeOf grammar scopes begin lexemes tree →
-      IsWord rule tree (numbered begin lexemes) scopes (scopes_behind grammar scopes begin lexemes tree)
+      IsWord rule tree (numbered begin lexemes) scopes
+      (scopes_behind grammar scopes begin lexemes tree)
   pub begins : (scopes : OpenScopes) (begin turns : ℕ) (lexemes : List Lexeme)
       (run more : List (Leveled KeptToken)) (end : Tree × OpenScopes) →
       tokens_of run ≡ numbered begin lexemes → AreLexemes IsToken more →
