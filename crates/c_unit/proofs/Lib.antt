@@ -1,0 +1,2 @@
+pub mod ReadLater
+pub mod UnitsAreRead

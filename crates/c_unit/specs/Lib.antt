@@ -1,0 +1,5 @@
+pub mod Later
+pub mod Parts
+pub mod UnitRules
+pub mod UnitReaders
+pub mod ExactFiles
