@@ -15,7 +15,11 @@ use reading::Turn;
 
 impl<B: Below, I: Inside> Grammar<B, I> {
     #[tactic(auto, unfolding(crate::specs::StatementReaders::last_item))]
-    pub(crate) fn last_item(&self, items: BlockItems, source: &mut Source<'_>) -> Result<Turn<BlockItems, Block>, Stop>
+    pub(crate) fn last_item(
+        &self,
+        items: BlockItems,
+        source: &mut Source<'_>,
+    ) -> Result<Turn<BlockItems, Block>, Stop>
         ensures { Gives (λ below room inside. spec.last_item below room inside items)
             (B.readers self.now.below) self.now.room (I.readers self.now.inside)
             source.old result source.new }
@@ -26,7 +30,11 @@ impl<B: Below, I: Inside> Grammar<B, I> {
     }
 
     #[tactic(auto, unfolding(crate::specs::StatementReaders::next_item))]
-    pub(crate) fn next_item(&self, items: BlockItems, source: &mut Source<'_>) -> Result<Turn<BlockItems, Block>, Stop>
+    pub(crate) fn next_item(
+        &self,
+        items: BlockItems,
+        source: &mut Source<'_>,
+    ) -> Result<Turn<BlockItems, Block>, Stop>
         requires { I.can_read self.now.inside self.now.room }
         ensures { Gives (λ below room inside. spec.next_item below room inside items)
             (B.readers self.now.below) self.now.room (I.readers self.now.inside)
@@ -38,7 +46,11 @@ impl<B: Below, I: Inside> Grammar<B, I> {
     }
 
     #[tactic(auto, unfolding(crate::specs::StatementReaders::item_turn))]
-    pub(crate) fn item_turn(&self, items: BlockItems, source: &mut Source<'_>) -> Result<Turn<BlockItems, Block>, Stop>
+    pub(crate) fn item_turn(
+        &self,
+        items: BlockItems,
+        source: &mut Source<'_>,
+    ) -> Result<Turn<BlockItems, Block>, Stop>
         requires { I.can_read self.now.inside self.now.room }
         ensures { Gives (λ below room inside. spec.item_turn below room inside items)
             (B.readers self.now.below) self.now.room (I.readers self.now.inside)
@@ -51,7 +63,11 @@ impl<B: Below, I: Inside> Grammar<B, I> {
         }
     }
 
-    pub(crate) fn all_items(&self, items: BlockItems, source: &mut Source<'_>) -> Result<Block, Stop>
+    pub(crate) fn all_items(
+        &self,
+        items: BlockItems,
+        source: &mut Source<'_>,
+    ) -> Result<Block, Stop>
         requires { I.can_read self.now.inside self.now.room }
         ensures { Gives (λ below room inside. spec.all_items below room inside items)
             (B.readers self.now.below) self.now.room (I.readers self.now.inside)

@@ -104,6 +104,30 @@ pub(crate) fn without_else(arms: Arms) -> Kinded
     }
 }
 
+/// What stands in the parentheses of a `for`.
+pub(crate) fn for_head(
+    alloc: Global,
+    key: u32,
+    left: u32,
+    init: ForInit,
+    cond: MaybeExpr,
+    step: MaybeExpr,
+) -> Result<ForHead, AllocError>
+    ensures { IfOk result (λ head. head ≡ spec.for_head key left init cond step) }
+{
+    let mut marks = Vec::with_capacity(alloc, 4)?;
+    marks.push(key)?;
+    marks.push(left)?;
+    marks.push(cond.mark)?;
+    marks.push(step.mark)?;
+    Ok(ForHead {
+        init,
+        cond: cond.expr,
+        step: step.expr,
+        marks: List::of(marks),
+    })
+}
+
 /// A `for` loop.
 pub(crate) fn for_of(alloc: Global, head: ForHead, body: Ended) -> Result<Kinded, AllocError>
     ensures { IfOk result (λ kinded. kinded ≡ spec.for_of head body) }

@@ -3,8 +3,8 @@
 ghost use Rattle.c_stmt.specs.Gives.{Gives};
 ghost use Rattle.c_stmt.specs.StatementReaders as spec;
 
-use crate::forms::{Arm, Ended, ForHead, Kinded, MaybeExpr, for_of, three_marks};
 use crate::ahead::is_at_expr;
+use crate::forms::{Arm, Ended, Kinded, MaybeExpr, for_head, for_of, three_marks};
 use crate::grammar::{Below, Grammar, Inside};
 use crate::scopes::{enter, leave};
 use c_lexer::keyword::{KEY_DO, KEY_FOR, KEY_WHILE};
@@ -183,18 +183,7 @@ impl<B: Below, I: Inside> Grammar<B, I> {
         let cond = self.maybe_to(MARK_SEMICOLON, source)?;
         let step = self.maybe_to(MARK_RIGHT_PAREN, source)?;
         let body = self.body(source)?;
-        let mut marks = Vec::with_capacity(self.alloc, 4)?;
-        marks.push(key)?;
-        marks.push(left)?;
-        marks.push(cond.mark)?;
-        marks.push(step.mark)?;
-        let marks = List::of(marks);
-        let head = ForHead {
-            init,
-            cond: cond.expr,
-            step: step.expr,
-            marks,
-        };
+        let head = for_head(self.alloc, key, left, init, cond, step)?;
         Ok(for_of(self.alloc, head, body)?)
     }
 

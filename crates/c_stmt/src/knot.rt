@@ -41,7 +41,12 @@ where
         (self.item)(alloc, self.below, room, source)
     }
 
-    fn statement(&self, alloc: Global, room: usize, source: &mut Source<'_>) -> Result<Ended, Stop> {
+    fn statement(
+        &self,
+        alloc: Global,
+        room: usize,
+        source: &mut Source<'_>,
+    ) -> Result<Ended, Stop> {
         (self.statement)(alloc, self.below, room, source)
     }
 }

@@ -36,7 +36,12 @@ impl<B: Below, I: Inside> Grammar<B, I> {
     }
 
     #[tactic(auto, unfolding(crate::specs::StatementReaders::next_arm))]
-    pub(crate) fn next_arm(&self, arms: Arms, other: u32, source: &mut Source<'_>) -> Result<Turn<Arms, Kinded>, Stop>
+    pub(crate) fn next_arm(
+        &self,
+        arms: Arms,
+        other: u32,
+        source: &mut Source<'_>,
+    ) -> Result<Turn<Arms, Kinded>, Stop>
         ensures { Gives (λ below room inside. spec.next_arm below room inside arms other)
             (B.readers self.now.below) self.now.room (I.readers self.now.inside)
             source.old result source.new }
@@ -49,7 +54,12 @@ impl<B: Below, I: Inside> Grammar<B, I> {
     }
 
     #[tactic(auto, unfolding(crate::specs::StatementReaders::last_body))]
-    pub(crate) fn last_body(&self, arms: Arms, other: u32, source: &mut Source<'_>) -> Result<Turn<Arms, Kinded>, Stop>
+    pub(crate) fn last_body(
+        &self,
+        arms: Arms,
+        other: u32,
+        source: &mut Source<'_>,
+    ) -> Result<Turn<Arms, Kinded>, Stop>
         requires { I.can_read self.now.inside self.now.room }
         ensures { Gives (λ below room inside. spec.last_body below room inside arms other)
             (B.readers self.now.below) self.now.room (I.readers self.now.inside)
@@ -71,7 +81,11 @@ impl<B: Below, I: Inside> Grammar<B, I> {
 
     /// An `if` behind `else` is a further arm.
     #[tactic(auto, unfolding(crate::specs::StatementReaders::else_part))]
-    pub(crate) fn else_part(&self, arms: Arms, source: &mut Source<'_>) -> Result<Turn<Arms, Kinded>, Stop>
+    pub(crate) fn else_part(
+        &self,
+        arms: Arms,
+        source: &mut Source<'_>,
+    ) -> Result<Turn<Arms, Kinded>, Stop>
         requires { I.can_read self.now.inside self.now.room }
         ensures { Gives (λ below room inside. spec.else_part below room inside arms)
             (B.readers self.now.below) self.now.room (I.readers self.now.inside)
@@ -86,7 +100,12 @@ impl<B: Below, I: Inside> Grammar<B, I> {
     }
 
     /// Behind a body that ends in an `if` without `else` none stands: it would belong to that (p3).
-    pub(crate) fn behind_arm(&self, dangles: bool, arms: Arms, source: &mut Source<'_>) -> Result<Turn<Arms, Kinded>, Stop>
+    pub(crate) fn behind_arm(
+        &self,
+        dangles: bool,
+        arms: Arms,
+        source: &mut Source<'_>,
+    ) -> Result<Turn<Arms, Kinded>, Stop>
         requires { I.can_read self.now.inside self.now.room }
         ensures { Gives (λ below room inside. spec.behind_arm below room inside dangles arms)
             (B.readers self.now.below) self.now.room (I.readers self.now.inside)
@@ -102,7 +121,11 @@ impl<B: Below, I: Inside> Grammar<B, I> {
     }
 
     #[tactic(auto, unfolding(crate::specs::StatementReaders::arm_turn))]
-    pub(crate) fn arm_turn(&self, arms: Arms, source: &mut Source<'_>) -> Result<Turn<Arms, Kinded>, Stop>
+    pub(crate) fn arm_turn(
+        &self,
+        arms: Arms,
+        source: &mut Source<'_>,
+    ) -> Result<Turn<Arms, Kinded>, Stop>
         requires { I.can_read self.now.inside self.now.room }
         ensures { Gives (λ below room inside. spec.arm_turn below room inside arms)
             (B.readers self.now.below) self.now.room (I.readers self.now.inside)

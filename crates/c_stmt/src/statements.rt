@@ -6,7 +6,10 @@ ghost use Rattle.c_stmt.specs.StatementReaders as spec;
 use crate::ahead::{is_at_plain, is_at_statement_mark, is_before_colon};
 use crate::forms::{Ended, Kinded, ended_of};
 use crate::grammar::{Below, Grammar, Inside};
-use c_lexer::keyword::{KEY_BREAK, KEY_CASE, KEY_CONTINUE, KEY_DEFAULT, KEY_DO, KEY_FOR, KEY_GOTO, KEY_IF, KEY_SWITCH, KEY_WHILE};
+use c_lexer::keyword::{
+    KEY_BREAK, KEY_CASE, KEY_CONTINUE, KEY_DEFAULT, KEY_DO, KEY_FOR, KEY_GOTO, KEY_IF, KEY_SWITCH,
+    KEY_WHILE,
+};
 use c_lexer::mark::{MARK_COLON, MARK_LEFT_BRACE, MARK_SEMICOLON};
 use c_reading::Stop;
 use c_syntax::Source;
@@ -49,7 +52,11 @@ impl<B: Below, I: Inside> Grammar<B, I> {
     }
 
     #[tactic(auto, unfolding(crate::specs::StatementReaders::kinded_turn))]
-    pub(crate) fn kinded_turn(&self, labels: List<Mark>, source: &mut Source<'_>) -> Result<Turn<List<Mark>, Ended>, Stop>
+    pub(crate) fn kinded_turn(
+        &self,
+        labels: List<Mark>,
+        source: &mut Source<'_>,
+    ) -> Result<Turn<List<Mark>, Ended>, Stop>
         requires { I.can_read self.now.inside self.now.room }
         ensures { Gives (λ below room inside. spec.kinded_turn below room inside labels)
             (B.readers self.now.below) self.now.room (I.readers self.now.inside)
@@ -60,7 +67,11 @@ impl<B: Below, I: Inside> Grammar<B, I> {
     }
 
     #[tactic(auto, unfolding(crate::specs::StatementReaders::value_turn))]
-    pub(crate) fn value_turn(&self, labels: List<Mark>, source: &mut Source<'_>) -> Result<Turn<List<Mark>, Ended>, Stop>
+    pub(crate) fn value_turn(
+        &self,
+        labels: List<Mark>,
+        source: &mut Source<'_>,
+    ) -> Result<Turn<List<Mark>, Ended>, Stop>
         ensures { Gives (λ below room inside. spec.value_turn below room inside labels)
             (B.readers self.now.below) self.now.room (I.readers self.now.inside)
             source.old result source.new }
@@ -70,7 +81,11 @@ impl<B: Below, I: Inside> Grammar<B, I> {
     }
 
     #[tactic(auto, unfolding(crate::specs::StatementReaders::case_turn))]
-    pub(crate) fn case_turn(&self, labels: List<Mark>, source: &mut Source<'_>) -> Result<Turn<List<Mark>, Ended>, Stop>
+    pub(crate) fn case_turn(
+        &self,
+        labels: List<Mark>,
+        source: &mut Source<'_>,
+    ) -> Result<Turn<List<Mark>, Ended>, Stop>
         ensures { Gives (λ below room inside. spec.case_turn below room inside labels)
             (B.readers self.now.below) self.now.room (I.readers self.now.inside)
             source.old result source.new }
@@ -85,7 +100,11 @@ impl<B: Below, I: Inside> Grammar<B, I> {
     }
 
     #[tactic(auto, unfolding(crate::specs::StatementReaders::default_turn))]
-    pub(crate) fn default_turn(&self, labels: List<Mark>, source: &mut Source<'_>) -> Result<Turn<List<Mark>, Ended>, Stop>
+    pub(crate) fn default_turn(
+        &self,
+        labels: List<Mark>,
+        source: &mut Source<'_>,
+    ) -> Result<Turn<List<Mark>, Ended>, Stop>
         ensures { Gives (λ below room inside. spec.default_turn below room inside labels)
             (B.readers self.now.below) self.now.room (I.readers self.now.inside)
             source.old result source.new }
@@ -99,7 +118,11 @@ impl<B: Below, I: Inside> Grammar<B, I> {
 
     /// Any name may be a label (6.2.3).
     #[tactic(auto, unfolding(crate::specs::StatementReaders::name_turn))]
-    pub(crate) fn name_turn(&self, labels: List<Mark>, source: &mut Source<'_>) -> Result<Turn<List<Mark>, Ended>, Stop>
+    pub(crate) fn name_turn(
+        &self,
+        labels: List<Mark>,
+        source: &mut Source<'_>,
+    ) -> Result<Turn<List<Mark>, Ended>, Stop>
         ensures { Gives (λ below room inside. spec.name_turn below room inside labels)
             (B.readers self.now.below) self.now.room (I.readers self.now.inside)
             source.old result source.new }
@@ -112,7 +135,11 @@ impl<B: Below, I: Inside> Grammar<B, I> {
     }
 
     #[tactic(auto, unfolding(crate::specs::StatementReaders::keyed_turn))]
-    pub(crate) fn keyed_turn(&self, labels: List<Mark>, source: &mut Source<'_>) -> Result<Turn<List<Mark>, Ended>, Stop>
+    pub(crate) fn keyed_turn(
+        &self,
+        labels: List<Mark>,
+        source: &mut Source<'_>,
+    ) -> Result<Turn<List<Mark>, Ended>, Stop>
         requires { I.can_read self.now.inside self.now.room }
         ensures { Gives (λ below room inside. spec.keyed_turn below room inside labels)
             (B.readers self.now.below) self.now.room (I.readers self.now.inside)
@@ -128,7 +155,11 @@ impl<B: Below, I: Inside> Grammar<B, I> {
     }
 
     #[tactic(auto, unfolding(crate::specs::StatementReaders::other_turn))]
-    pub(crate) fn other_turn(&self, labels: List<Mark>, source: &mut Source<'_>) -> Result<Turn<List<Mark>, Ended>, Stop>
+    pub(crate) fn other_turn(
+        &self,
+        labels: List<Mark>,
+        source: &mut Source<'_>,
+    ) -> Result<Turn<List<Mark>, Ended>, Stop>
         requires { I.can_read self.now.inside self.now.room }
         ensures { Gives (λ below room inside. spec.other_turn below room inside labels)
             (B.readers self.now.below) self.now.room (I.readers self.now.inside)
@@ -143,7 +174,11 @@ impl<B: Below, I: Inside> Grammar<B, I> {
 
     /// A label, or what the labels stand before.
     #[tactic(auto, unfolding(crate::specs::StatementReaders::turn))]
-    pub(crate) fn turn(&self, labels: List<Mark>, source: &mut Source<'_>) -> Result<Turn<List<Mark>, Ended>, Stop>
+    pub(crate) fn turn(
+        &self,
+        labels: List<Mark>,
+        source: &mut Source<'_>,
+    ) -> Result<Turn<List<Mark>, Ended>, Stop>
         requires { I.can_read self.now.inside self.now.room }
         ensures { Gives (λ below room inside. spec.turn below room inside labels)
             (B.readers self.now.below) self.now.room (I.readers self.now.inside)
