@@ -143,7 +143,8 @@ impl<'a> Walk<'a> {
     fn add_row(&mut self, rule: Rule, from: usize) -> Result<(), AllocError> {
         let from = u32::try_from(from).map_err(|_| AllocError)?;
         let to = u32::try_from(self.parts.len()).map_err(|_| AllocError)?;
-        self.rows.push(Row { rule, from, to })
+        self.rows.push(Row { rule, from, to })?;
+        Ok(())
     }
 
     /// Adds the first so many parts of a node.
@@ -197,7 +198,8 @@ impl<'a> Walk<'a> {
                 let first = self.number()?;
                 let statement = part(self.graph, self.index, node, 2);
                 self.parts.push(None)?;
-                self.parts.push(number_among(children, first, statement))
+                self.parts.push(number_among(children, first, statement))?;
+                Ok(())
             }
             _ => Ok(()),
         }
@@ -218,7 +220,8 @@ impl<'a> Walk<'a> {
             }
             None => {
                 self.names.add(self.alloc, name)?;
-                self.labels.push(number)
+                self.labels.push(number)?;
+                Ok(())
             }
         }
     }
@@ -242,7 +245,10 @@ impl<'a> Walk<'a> {
     fn add_jumps(&mut self, number: u32, kind: Kind, met: Met) -> Result<(), AllocError> {
         match kind {
             Kind::JumpTarget => self.add_case(number, met),
-            Kind::Goto => self.gotos.push(number),
+            Kind::Goto => {
+                self.gotos.push(number)?;
+                Ok(())
+            }
             Kind::Break => add_jump(&mut self.breaks, met.around.left, number),
             Kind::Continue => add_jump(&mut self.continues, met.around.nearest_loop, number),
             _ => Ok(()),
