@@ -105,11 +105,7 @@ fn around_below(kind: Kind, number: u32, around: Around) -> Around {
 }
 
 /// Adds a jump of a construct, where there is one.
-fn add_jump(
-    jumps: &mut Vec<Jump>,
-    construct: Option<u32>,
-    mark: u32,
-) -> Result<(), AllocError> {
+fn add_jump(jumps: &mut Vec<Jump>, construct: Option<u32>, mark: u32) -> Result<(), AllocError> {
     if let Some(construct) = construct {
         jumps.push(Jump { construct, mark })?;
     }
@@ -283,7 +279,12 @@ impl<'a> Walk<'a> {
         if kind == Kind::JumpTarget {
             but = part(self.graph, self.index, met.node, 1);
         }
-        self.meet(children, walked, but, around_below(kind, number, met.around))
+        self.meet(
+            children,
+            walked,
+            but,
+            around_below(kind, number, met.around),
+        )
     }
 
     /// Leads each `goto` to its label.
