@@ -1,6 +1,6 @@
 -- A word is taken as its number is.
 
-use Rattle.std.proofs.Common.{◌≡◌, ℕ, zero, suc, Bool, true, false, if◌then◌else◌, List, [], ◌∷◌, Ok, Err, sym, ap, ◌∙◌}
+use Rattle.std.proofs.Common.{◌≡◌, ℕ, ◌+◌, zero, suc, Bool, true, false, if◌then◌else◌, List, [], ◌∷◌, Ok, Err, sym, ap, ◌∙◌}
 use Rattle.c_lexer.specs.Lexemes.{Lexeme}
 use Rattle.c_scopes.specs.Scopes.{OpenScopes}
 use Rattle.reading.specs.Readers.{Input, Halt, Outcome, offends, expect, is_ahead, take_first}
@@ -24,10 +24,10 @@ abbrev named : ℕ → List ℕ → NamedToken
 named token bytes = record { token = token; bytes = bytes }
 
 module _ (input : At) (at : ℕ) where
-  numbers : ℕ → List Lexeme → Bool → Given ℕ
+  abbrev numbers : ℕ → List Lexeme → Bool → Given ℕ
   numbers room left b = if b then take_first number_of room (numbered at left) input else Err (offends input)
 
-  words : ℕ → List Lexeme → Bool → Given NamedToken
+  abbrev words : ℕ → List Lexeme → Bool → Given NamedToken
   words room left b = if b then take_first word_of room (numbered at left) input else Err (offends input)
 
   taken : (room : ℕ) (left : List Lexeme) (b : Bool) (n : ℕ) (new : At) → numbers room left b ≡ Ok (n, new) → words room left b ≡ Ok (named n (first_spelling left), new)
@@ -35,7 +35,7 @@ module _ (input : At) (at : ℕ) where
   taken room [] true n new e = absurd (cc)
   taken zero (lexeme ∷ left) true n new e = absurd (cc)
   taken (suc room) (lexeme ∷ left) true n new e =
-      let f : (at, record input { tokens = numbered (suc at) left }) ≡ (n, new) = cc in
+      let f : (at, record input { tokens = numbered (at + 1) left }) ≡ (n, new) = cc in
       ap (λ (z : ℕ × At). Ok (named z.0 lexeme.spelling, z.1)) f
 
   stopped : (room : ℕ) (left : List Lexeme) (b : Bool) (h : Halt KeptToken OpenScopes Around) → numbers room left b ≡ Err h → words room left b ≡ Err h
@@ -57,6 +57,6 @@ module _ (set : List ℕ) (room : ℕ) (place : Place) (scopes : OpenScopes) whe
   halted h e = stopped (input_at place scopes) place.at room place.left (is_ahead terminal_of set (input_at place scopes)) h e
 
   pub word_halted : (why : Stop) → Halts (expect_among set room (input_at place scopes)) why → Halts (expect_word set room (input_at place scopes)) why
-  word_halted (stop.Offends token) x = (x.0, halted _ x.1.0, x.1.1)
-  word_halted (stop.TooDeep token) x = (x.0, halted _ x.1.0, x.1.1)
+  word_halted (stop.Offends token) x = (x.0, halted _ x.1, x.2)
+  word_halted (stop.TooDeep token) x = (x.0, halted _ x.1, x.2)
   word_halted stop.Memory x = tt
