@@ -9,35 +9,35 @@ use std::alloc::{AllocError, AllocFailed, Global};
 
 /// Assignment expressions, with the marks around and between them.
 #[derive(Drop)]
-pub(crate) struct Parts {
+pub struct Parts {
     pub(crate) parts: List<Assign>,
     pub(crate) marks: List<u32>,
 }
 
 /// Items of an initialiser list, with the marks around and between them.
 #[derive(Drop)]
-pub(crate) struct Items {
+pub struct Items {
     pub(crate) items: List<InitItem>,
     pub(crate) marks: List<u32>,
 }
 
 /// The conditions so far, and what stands behind them.
 #[derive(Drop)]
-pub(crate) struct Arms {
+pub struct Arms {
     pub(crate) arms: List<Arm>,
     pub(crate) last: Binary,
 }
 
 /// The targets so far, and the operand behind them.
 #[derive(Drop)]
-pub(crate) struct Begun {
+pub struct Begun {
     pub(crate) targets: List<(Prefixed, u32)>,
     pub(crate) first: Prefixed,
 }
 
 /// What a type name in parentheses may be.
 #[derive(Clone, Copy, Drop)]
-pub(crate) enum Mode {
+pub enum Mode {
     /// A cast, or the type of a compound literal.
     Cast,
     /// Behind `++` and `--`: the type of a compound literal.
@@ -63,14 +63,14 @@ pub enum AssignForm {
 
 /// The prefixes so far. A `sizeof` in the mode is not yet one of them.
 #[derive(Drop)]
-pub(crate) struct Chain {
+pub struct Chain {
     pub(crate) prefixes: List<Prefix>,
     pub(crate) mode: Mode,
 }
 
 /// Prefixes and what stands behind them.
 #[derive(Drop)]
-pub(crate) enum Found {
+pub enum Found {
     /// An operand, which may have suffixes.
     Operand(List<Prefix>, BaseForm),
     /// The size of a type, which has none.

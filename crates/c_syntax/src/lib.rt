@@ -15,6 +15,6 @@ mod suffix;
 mod type_name;
 
 pub use entry::read_expr;
-pub use forms::AssignForm;
+pub use forms::{Arms, AssignForm, Begun, Chain, Found, Items, Mode, Parts};
 pub use grammar::{Grammar, Inner};
 pub use source::Source;

@@ -1,0 +1,7 @@
+pub mod Counts
+pub mod Steps
+pub mod Chaining
+pub mod Bodies
+pub mod Places
+pub mod Inner
+pub mod Within

@@ -1,0 +1,4 @@
+pub mod Hanging
+pub mod Facts
+pub mod Shapes
+pub mod Fits

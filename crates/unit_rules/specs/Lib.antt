@@ -1,0 +1,4 @@
+pub mod Units
+pub mod UnitNodes
+pub mod UnitEdges
+pub mod UnitDeltas
