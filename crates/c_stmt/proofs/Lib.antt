@@ -5,3 +5,4 @@ pub mod StatementReadings
 pub mod StatementsAreRead
 pub mod WholeStatements
 pub mod Samples
+pub mod AheadOfStatements

@@ -66,6 +66,13 @@ fn begins_expression(kind: Kind) -> bool
     )
 }
 
+/// A colon.
+fn is_colon(kind: Kind) -> bool
+    ensures { result ≡ has a_colon (terminal kind) }
+{
+    matches!(kind, Kind::Mark(MARK_COLON))
+}
+
 /// Whether the next token begins a statement, and is no name and begins no expression.
 pub(crate) fn is_at_statement_mark(source: &Source<'_>) -> bool
     ensures { result ≡ is_ahead terminal_of a_statement_mark (input_from source.now) }
@@ -104,7 +111,7 @@ pub(crate) fn is_before_colon(source: &Source<'_>) -> bool
     ensures { result ≡ is_second terminal_of a_colon (input_from source.now) }
 {
     match source.cursor.second() {
-        Some(kind) => kind == Kind::Mark(MARK_COLON),
+        Some(kind) => is_colon(kind),
         None => false,
     }
 }
