@@ -1,4 +1,4 @@
--- What pass 6 adds to a graph (ours): the CFG edges of each METHOD with a body.
+-- What the control flow pass adds to a graph (ours): the CFG edges of each METHOD with a body.
 use Rattle.std.specs.Prelude.{ℕ, ◌&&◌, not, Bool, List, [], Option, Some, None, map, slice_get}
 use Rattle.cpg_schema.specs.declared.edge_kind.EdgeKind.TheVariants.{Cfg}
 use Rattle.cpg_schema.specs.declared.end.End.TheVariants.{Old}

@@ -1,1 +1,2 @@
 pub mod TypedLocals
+pub mod NamedForest

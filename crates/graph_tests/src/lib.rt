@@ -6,6 +6,8 @@ mod deltas_under_caps;
 #[cfg(test)]
 mod indexed_edges;
 #[cfg(test)]
+mod named_parts;
+#[cfg(test)]
 mod pass_runs;
 #[cfg(test)]
 mod planted_forests;
@@ -15,3 +17,5 @@ mod printed_lines;
 mod stored_graphs;
 #[cfg(test)]
 mod syntax_layers;
+#[cfg(test)]
+mod unit_runs;

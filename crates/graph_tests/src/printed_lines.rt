@@ -205,7 +205,7 @@ fn all_edges() -> &'static [Edge] {
 }
 
 /// The lines of a graph, on a tape that has room for them.
-fn print(alloc: Global, graph: &Graph) -> Result<Tape, Fail> {
+pub(crate) fn print(alloc: Global, graph: &Graph) -> Result<Tape, Fail> {
     let edges = edges_in_order(alloc, graph)?;
     let mut tape = Tape::new(alloc, 4096, 4096, Vec::new(alloc))?;
     dump(graph, &edges, &mut tape)

@@ -47,7 +47,7 @@ fn one_function(alloc: Global) -> Result<Unit, AllocError> {
 }
 
 /// The source of this name with these bytes, whose tree is the unit.
-fn source(alloc: Global, name: &str, bytes: &[u8], unit: Unit) -> Result<Source, Fail>
+pub(crate) fn source(alloc: Global, name: &str, bytes: &[u8], unit: Unit) -> Result<Source, Fail>
     requires { length bytes.now ≤ MAX_FILE_BYTES }
 {
     law_within_the_text();
@@ -171,7 +171,7 @@ const EDGES: [EdgeRow; 16] = [
 ];
 
 /// The pass over a source without functions, and that of `TEXT`.
-fn two_sources(alloc: Global) -> Result<AstPass, Fail> {
+pub(crate) fn two_sources(alloc: Global) -> Result<AstPass, Fail> {
     let nothing = Unit {
         items: List::new(alloc),
     };

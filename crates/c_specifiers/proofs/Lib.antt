@@ -1,0 +1,4 @@
+pub mod Unions
+pub mod NamesAreRead
+pub mod DeclarationReadings
+pub mod SpecifiersAreRead

@@ -1,0 +1,7 @@
+use Rattle.graph_forest.proofs.Composing.{plants_branch, plants_branch_beside}
+use Rattle.graph_tests.proofs.named_parts.plant_global.Goals as goal
+
+pub returns : goal.returns
+returns c =
+    plants_branch _ _ _ _ _ _ _ c.in_ok-enter.ensures
+    (plants_branch_beside _ _ _ _ _ _ _ _ _ c.in_ok-enter-2.ensures c.in_ok-plant_method.ensures c.leave.ensures c.in_ok-plant.ensures) c.leave-2.ensures

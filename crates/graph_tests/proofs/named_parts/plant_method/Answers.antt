@@ -1,0 +1,8 @@
+use Rattle.graph_forest.proofs.Composing.{plants_beside, plants_branch, plants_branch_beside}
+use Rattle.graph_tests.proofs.named_parts.plant_method.Goals as goal
+
+pub returns : goal.returns
+returns c =
+    plants_branch _ _ _ _ _ _ _ c.in_ok-enter.ensures
+    (plants_beside _ _ _ _ _ c.in_ok-plant.ensures
+    (plants_branch_beside _ _ _ _ _ _ _ _ _ c.in_ok-enter-2.ensures c.in_ok-plant_call.ensures c.leave.ensures c.in_ok-plant-2.ensures)) c.leave-2.ensures
