@@ -6,3 +6,4 @@ pub mod StatementRules
 pub mod StatementReaders
 pub mod Gives
 pub mod Statements
+pub mod Ties
