@@ -42,6 +42,10 @@ abbrev pub block : Below → ℕ → ℕ → Part Block
 block below turns level =
     rule.block below turns level (inside_of (nested (rule_of below) turns (suc level)))
 
+-- Either, where fewer levels are left than the number.
+abbrev pub nested_in : BelowReaders → ℕ → (n : Name) → PartReader (Value n)
+nested_in below = nested_reader (reader_of below)
+
 -- Their readers, where so many levels are left.
 abbrev pub read_statement : BelowReaders → ℕ → PartReader Ended
 read_statement below room = nested_reader (reader_of below) (suc room) statements

@@ -7,6 +7,7 @@ mod forms;
 mod grammar;
 mod iteration;
 mod jumps;
+mod knot;
 mod scopes;
 mod selection;
 mod statements;
