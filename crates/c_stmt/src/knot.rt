@@ -26,16 +26,13 @@ where
     F: Fn(Global, B, usize, &mut Source<'_>) -> Result<BlockItem, Stop>,
     G: Fn(Global, B, usize, &mut Source<'_>) -> Result<Ended, Stop>,
 {
-    ghost use Rattle.c_stmt.specs.Statements.{items, nested_in, readers_of, statements};
+    ghost use Rattle.c_stmt.specs.Statements.{nested_in, readers_of};
     ghost use Rattle.c_stmt.specs.Ties.{Ties};
 
     ghost readers = { λ it room. readers_of (nested_in (B.readers it.below) room) };
 
-    ghost can_read = { λ it room.
-        Ties (nested_in (B.readers it.below) room items) it.below room (F.pre it.item)
-        (F.post it.item) ×
-        Ties (nested_in (B.readers it.below) room statements) it.below room
-        (G.pre it.statement) (G.post it.statement) };
+    ghost can_read = { λ it room. Ties (B.readers it.below) it.below room
+        (F.pre it.item) (F.post it.item) (G.pre it.statement) (G.post it.statement) };
 
     fn item(&self, alloc: Global, room: usize, source: &mut Source<'_>) -> Result<BlockItem, Stop> {
         (self.item)(alloc, self.below, room, source)
