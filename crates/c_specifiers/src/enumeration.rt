@@ -5,6 +5,7 @@ ghost use Rattle.c_specifiers.specs.Gives.{Gives};
 ghost use Rattle.c_specifiers.specs.SpecifierReaders as spec;
 
 use crate::forms::{Enumerators, NamedEnumerator, Specified, Word};
+use crate::grammar::{Grammar, Inside};
 use crate::steps::{declare_word, expect_word};
 use c_lexer::keyword::KEY_ENUM;
 use c_lexer::mark::{MARK_COMMA, MARK_EQUAL, MARK_LEFT_BRACE, MARK_RIGHT_BRACE};

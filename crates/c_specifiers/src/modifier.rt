@@ -5,6 +5,7 @@ ghost use Rattle.c_specifiers.specs.Gives.{Gives};
 ghost use Rattle.c_specifiers.specs.SpecifierReaders as spec;
 
 use crate::forms::{Place, Specified};
+use crate::grammar::{Grammar, Inside};
 use crate::steps::{
     expect_function_specifier, expect_plain_qualifier, expect_storage_class,
     is_at_function_specifier, is_at_specifiers, is_at_storage_class,

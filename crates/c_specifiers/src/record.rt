@@ -5,6 +5,7 @@ ghost use Rattle.c_specifiers.specs.Gives.{Gives};
 ghost use Rattle.c_specifiers.specs.SpecifierReaders as spec;
 
 use crate::forms::{Members, Specified};
+use crate::grammar::{Grammar, Inside};
 use crate::steps::expect_record;
 use c_lexer::mark::{MARK_LEFT_BRACE, MARK_RIGHT_BRACE};
 use c_reading::Stop;

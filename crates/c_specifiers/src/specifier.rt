@@ -5,6 +5,7 @@ ghost use Rattle.c_specifiers.specs.Gives.{Gives};
 ghost use Rattle.c_specifiers.specs.SpecifierReaders as spec;
 
 use crate::forms::{Place, Specified};
+use crate::grammar::{Grammar, Inside};
 use crate::steps::{is_at_more_specifiers, is_at_record, is_at_type_specifier};
 use c_lexer::keyword::KEY_ATOMIC;
 use c_lexer::mark::{MARK_LEFT_PAREN, MARK_RIGHT_PAREN};
