@@ -1,5 +1,5 @@
 -- One node more is gathered.
-use Rattle.std.proofs.Common.{◌≡◌, ℕ, ◌+◌, ◌<◌, ◌≤◌, cond, Bool, true, false, List, [], ◌∷◌, ◌++◌, Option, Some, None, flat_map, length, map, slice_get, refl, ap, sym, subst, ◌∙◌, arith, append-nil}
+use Rattle.std.proofs.Common.{◌≡◌, ℕ, ◌+◌, ◌<◌, Bool, true, false, List, [], ◌∷◌, ◌++◌, Option, Some, None, flat_map, length, map, refl, ap, sym, subst, ◌∙◌, arith, append-nil}
 use Rattle.std.specs.List.{Contains, range_with_len}
 use Rattle.std.proofs.lemmas.Grind.{flat_map-append}
 use Rattle.std.proofs.lemmas.List.{length-append, length-map, map-append}
@@ -16,7 +16,7 @@ use Rattle.unit_rules.specs.UnitEdges.{edge_between}
 use Rattle.type_rules.specs.TypeDeltas.{eval_edges, node_edges, type_node}
 use Rattle.type_rules.specs.Types.{position_of, type_at, type_names}
 use Rattle.type_rules.proofs.Facts.{among_before, names_before, names_next, names_same, position_before, range_split}
-use Rattle.type_rules.proofs.Once.{among, found_at, found_last, missing_of, stands_among}
+use Rattle.type_rules.proofs.Once.{among, found_at, found_last, none_missing, one_missing, stands_among}
 use Rattle.type_layer.specs.declared.types.Types.{Types}
 use Rattle.type_layer.specs.Gathered.{AddsType, AreGathered}
 
@@ -102,23 +102,23 @@ module _ (graph : PlainGraph) (node : ℕ) where
     pub gathered_known : (types : Types) (number : ℕ) (new : PlainDelta) → AreGathered graph node types → IsNumberOf types.names name number →
         new ≡ record types.delta { edges = types.delta.edges ++ edge_between (Old node) EvalType (New number) ∷ [] } →
         AreGathered graph (node + 1) (record { names = types.names; delta = new })
-    unfolding missing_of with_edge
+    unfolding with_edge
     gathered_known types number new before known new_is =
         let here : among (names_before graph node) name ≡ true = ap (λ (ns : List (List ℕ)). among ns name) (sym before.names) ∙ known_among types.names name number known in
         let next : names_before graph (node + 1) ≡ names_before graph node =
-        names_next graph node name is ∙ (ap (λ (t : Bool). names_before graph node ++ cond t [] (name ∷ [])) here ∙ append-nil (names_before graph node)) in
+        names_next graph node name is ∙ (ap (λ (ns : List (List ℕ)). names_before graph node ++ ns) (none_missing (names_before graph node) name here) ∙ append-nil (names_before graph node)) in
         gathered_edge types.names number new (before.names ∙ sym next) (known_position types.names name number known) (new_is ∙ ap (with_edge number) before.delta)
 
     -- The type is new.
     pub gathered_new : (types more : Types) (number : ℕ) (new : PlainDelta) → AreGathered graph node types → ¬ Contains types.names name → AddsType types more name number →
         new ≡ record more.delta { edges = more.delta.edges ++ edge_between (Old node) EvalType (New number) ∷ [] } →
         AreGathered graph (node + 1) (record { names = more.names; delta = new })
-    unfolding missing_of with_edge
+    unfolding with_edge
     gathered_new types more number new before none added new_is =
         let fresh = new_among types.names name none in
         let here : among (names_before graph node) name ≡ false = ap (λ (ns : List (List ℕ)). among ns name) (sym before.names) ∙ fresh in
         let next : names_before graph (node + 1) ≡ names_before graph node ++ name ∷ [] =
-        names_next graph node name is ∙ ap (λ (t : Bool). names_before graph node ++ cond t [] (name ∷ [])) here in
+        names_next graph node name is ∙ ap (λ (ns : List (List ℕ)). names_before graph node ++ ns) (one_missing (names_before graph node) name here) in
         let names : more.names ≡ names_before graph (node + 1) = added.names ∙ (ap (λ (ns : List (List ℕ)). ns ++ name ∷ []) before.names ∙ sym next) in
         let last : number ≡ position_of more.names name =
         added.number_is ∙ (sym (found_last types.names name fresh) ∙ ap (λ (ns : List (List ℕ)). position_of ns name) (sym added.names)) in
@@ -149,3 +149,13 @@ new_end graph node types more name number before added =
     let last = added.number_is in
     let sum = length-append types.delta.nodes (type_node name ∷ []) in
     omega arith
+
+-- ---- What is said of a value holds of an equal one
+
+pub number_as : (old new : Types) (name : List ℕ) (number shown at : ℕ) → new ≡ old → shown ≡ number → at ≡ shown → IsNumberOf old.names name number → IsNumberOf new.names name at
+number_as old new name number shown at same is shows known =
+    subst (λ (k : ℕ). IsNumberOf new.names name k) (sym (shows ∙ is)) (subst (λ (t : Types). IsNumberOf t.names name number) (sym same) known)
+
+pub added_as : (old more new : Types) (name : List ℕ) (number shown at : ℕ) → new ≡ more → shown ≡ number → at ≡ shown → AddsType old more name number → AddsType old new name at
+added_as old more new name number shown at same is shows added =
+    subst (λ (k : ℕ). AddsType old new name k) (sym (shows ∙ is)) (subst (λ (t : Types). AddsType old t name number) (sym same) added)

@@ -93,6 +93,14 @@ among_front name more = rw name_same refl
 pub missing_of : List (List ℕ) → List ℕ → List (List ℕ)
 missing_of names name = cond (among names name) [] (name ∷ [])
 
+pub none_missing : (names : List (List ℕ)) (name : List ℕ) → among names name ≡ true → missing_of names name ≡ []
+unfolding missing_of
+none_missing names name is = rw is refl
+
+pub one_missing : (names : List (List ℕ)) (name : List ℕ) → among names name ≡ false → missing_of names name ≡ name ∷ []
+unfolding missing_of
+one_missing names name is = rw is refl
+
 filter_one : (p : List ℕ → Bool) (name : List ℕ) (t : Bool) → p name ≡ t → filter p (name ∷ []) ≡ cond t (name ∷ []) []
 filter_one p name true e = rw e refl
 filter_one p name false e = rw e refl
