@@ -10,4 +10,7 @@ run_pass_one-requires-2-after_bounds c κs =
     parts_shape (sources_of c.args.sources.now) _ _ _ c.law_stored.ensures.is_graph (ap plain c.in_ok-empty.ensures) c.in_ok-syntax.ensures.ok.is
 
 pub returns : goal.returns
-returns c = units_shape _ _ _ c.law_stored-2.ensures.is_graph ? c.in_ok-graph.ensures.ok.is
+returns c =
+    let shaped =
+    parts_shape (sources_of c.args.sources.now) _ _ _ c.law_stored.ensures.is_graph (ap plain c.in_ok-empty.ensures) c.in_ok-syntax.ensures.ok.is in
+    units_shape _ _ _ c.law_stored-2.ensures.is_graph shaped c.in_ok-graph.ensures.ok.is
