@@ -56,8 +56,8 @@ adds_list old more b = (
 -- ---- A list whose last item is taken away
 
 nothing_behind : {A : Type 0} (before : List A) (t : A) (after : List A) → ¬ ([] ≡ before ++ t ∷ after)
-nothing_behind [] t after = cc
-nothing_behind (first ∷ before) t after = cc
+nothing_behind [] t after e = cc
+nothing_behind (first ∷ before) t after e = cc
 
 abbrev Splits : {A : Type 0} → List A → A → List A → A → List A → Type 0
 Splits {A} tokens x before t after = ((more : List A) × (tokens ≡ before ++ t ∷ more)) ⊎ ((tokens ≡ before) × (x ≡ t))

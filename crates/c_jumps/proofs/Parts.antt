@@ -1,9 +1,9 @@
 -- What is found in the parts of a function, one after the other.
 
-use Rattle.std.proofs.Common.{◌≡◌, ℕ, suc, ◌+◌, ◌<◌, Bool, true, false, ◌||◌, List, [], ◌∷◌, ◌++◌, Option, Some, None, map, take, drop, get_or, length, refl, sym, ap, ◌∙◌, arith, append_assoc, append-nil}
+use Rattle.std.proofs.Common.{◌≡◌, ℕ, suc, ◌+◌, ◌<◌, ◌≤◌, Bool, true, false, ◌||◌, List, [], ◌∷◌, ◌++◌, Option, Some, None, map, take, drop, get_or, length, refl, sym, ap, ◌∙◌, arith, append_assoc, append-nil}
 use Rattle.std.specs.Prelude.{slice_get}
 use Rattle.std.proofs.lemmas.Grind.{flat_map-append}
-use Rattle.std.proofs.lemmas.List.{take_more, map_push}
+use Rattle.std.proofs.lemmas.List.{take_all, take_more, map_push}
 use Rattle.c_tree.specs.declared.tree.Block.{Block}
 use Rattle.c_tree.specs.declared.tree.Declaration.{Declaration}
 use Rattle.c_tree.specs.declared.tree.Expr.{Expr}
@@ -35,6 +35,19 @@ one_more jumps_of found items i item around inside is =
     (ap (map jumps_of) (take_more items i item inside) ∙ (map_push jumps_of (take i items) (get_or items i item) ∙
     ap (λ v. map jumps_of (take i items) ++ jumps_of v ∷ []) (sym is))) ∙
     with_parts-push found (map jumps_of (take i items)) (jumps_of item) around
+
+-- One more of the items was added.
+pub one_more_added : {A : Type 0} (jumps_of : A → Jumps) (found before after : FoundJumps) (items : List A) (i : ℕ) (item : A) (around : Around) → i < length items → item ≡ get_or items i item →
+    before ≡ with_parts found (map jumps_of (take i items)) around → after ≡ with_part before (jumps_of item) around →
+    after ≡ with_parts found (map jumps_of (take (i + 1) items)) around
+one_more_added jumps_of found before after items i item around inside is so_far then =
+    then ∙ (ap (λ (f : FoundJumps). with_part f (jumps_of item) around) so_far ∙ sym (one_more jumps_of found items i item around inside is))
+
+-- All of the items were added.
+pub all_added : {A : Type 0} (jumps_of : A → Jumps) (found end : FoundJumps) (items : List A) (i : ℕ) (around : Around) → length items ≤ i →
+    end ≡ with_parts found (map jumps_of (take i items)) around → end ≡ with_parts found (map jumps_of items) around
+all_added {A} jumps_of found end items i around past so_far =
+    so_far ∙ ap (λ (list : List A). with_parts found (map jumps_of list) around) (take_all i items past)
 
 -- ---- Blocks and their items
 
@@ -193,6 +206,13 @@ pub switch_ends : (found : FoundJumps) (body : Jumps) (around : Around) →
 unfolding with_part after_switch
 switch_ends found body around =
     simp (drop_behind found.defaults body.defaults, take_before found.defaults body.defaults, append-nil, append_assoc)
+
+pub switch_done : (old between : FoundJumps) (body : Jumps) (outer : ℕ) (around inner : Around) → outer ≡ length old.defaults →
+    between ≡ with_part old body inner → inner ≡ record around { in_switch = true } → after_switch outer between ≡ with_part old (in_switch body) around
+switch_done old between body outer around inner before found stands =
+    ap (λ (n : ℕ). after_switch n between) before ∙
+    (ap (λ (f : FoundJumps). after_switch (length old.defaults) f) (found ∙ ap (λ (a : Around). with_part old body a) stands) ∙
+    switch_ends old body around)
 
 pub ruleset label_laws = (label_found, case_found, default_found)
 

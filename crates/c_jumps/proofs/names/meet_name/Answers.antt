@@ -8,6 +8,6 @@ use Rattle.c_jumps.proofs.names.meet_name.Goals as goal
 
 pub returns-in-Some : goal.returns-in-Some
 returns-in-Some c =
-    let known = known_name c.args.names.now c.spelling.result.now c.in-Some.field-0 c.in-Some.ensures.number.stands in
-    let here = subst (λ name. Contains c.args.names.now name) c.spelling.ensures known in
+    let known = known_name c.args.names.now c.spelling-name.result.now c.in-Some.field-0 c.in-Some.ensures.number.stands in
+    let here = subst (λ name. Contains c.args.names.now name) c.spelling-name.ensures known in
     on_ok_weaker c.push.result (λ more. meets.MeetsName.known here refl more) c.push.ensures
