@@ -1,6 +1,6 @@
 -- What is found in the parts of a function, one after the other.
 
-use Rattle.std.proofs.Common.{◌≡◌, ℕ, suc, ◌+◌, ◌<◌, ◌≤◌, Bool, true, false, ◌||◌, List, [], ◌∷◌, ◌++◌, Option, Some, None, map, take, drop, get_or, length, refl, sym, ap, ◌∙◌, arith, append_assoc, append-nil}
+use Rattle.std.proofs.Common.{◌≡◌, ℕ, suc, ◌+◌, ◌<◌, ◌≤◌, true, ◌||◌, List, [], ◌∷◌, ◌++◌, Option, Some, None, map, take, drop, get_or, length, refl, sym, ap, ◌∙◌, arith, append_assoc, append-nil}
 use Rattle.std.specs.Prelude.{slice_get}
 use Rattle.std.proofs.lemmas.Grind.{flat_map-append}
 use Rattle.std.proofs.lemmas.List.{take_all, take_more, map_push}
@@ -12,7 +12,7 @@ use Rattle.c_tree.specs.declared.tree.Stmt.{Stmt}
 use Rattle.c_tree.specs.declared.tree.BlockItem.TheVariants as v_block_item
 use Rattle.c_tree.specs.declared.tree.StmtKind.TheVariants as v_kind
 use Rattle.c_tree.specs.declared.tree.Mark.TheVariants as v_mark
-use Rattle.c_tree.specs.Jumps.{Jumps, Blames, block_jumps, blame, in_parts, in_switch, no_jumps, jump_steps, stray_unless, StrayBreak, StrayCase, StrayContinue, StrayDefault, SecondDefault}
+use Rattle.c_tree.specs.Jumps.{Jumps, Blames, block_jumps, in_parts, in_switch, no_jumps, jump_steps, stray_unless, StrayBreak, StrayCase, StrayContinue, StrayDefault}
 use Rattle.c_tree.proofs.Folds.{block_folds, block_item_declare_folds, block_item_do_folds, stmt_folds, stmt_kind_empty_folds, stmt_kind_value_folds, stmt_kind_braced_folds, stmt_kind_if_folds, stmt_kind_while_folds, stmt_kind_do_while_folds, stmt_kind_for_folds, stmt_kind_switch_folds, stmt_kind_break_folds, stmt_kind_continue_folds, stmt_kind_goto_folds, stmt_kind_return_folds}
 use Rattle.c_jumps.specs.declared.around.Around.{Around}
 use Rattle.c_jumps.specs.Walk.{FoundJumps, block_item_jumps, stmt_jumps, stmt_kind_jumps, arm_jumps, mark_jumps, with_blames, with_default, with_goto, with_label, with_part, with_parts, after_switch}

@@ -4,7 +4,6 @@ use Rattle.std.specs.Prelude.{ℕ, ◌≤◌, List, Option}
 use Rattle.c_lexer.specs.declared.token.Kind.{Kind}
 use Rattle.c_tree.specs.declared.tree.Unit.{Unit}
 use Rattle.c_tree.specs.Jumps as rules
-use Rattle.c_jumps.specs.declared.fault.Jump.{Jump}
 use Rattle.c_jumps.specs.declared.fault.Jump.TheVariants as jump
 use Rattle.c_jumps.specs.declared.fault.Fault.{Fault}
 use Rattle.c_jumps.specs.declared.fault.Fault.TheVariants as fault

@@ -1,4 +1,4 @@
-use Rattle.std.proofs.Common.{◌≡◌, arith}
+use Rattle.std.proofs.Common.{arith}
 use Rattle.c_jumps.proofs.Files.{name_laws}
 use Rattle.c_jumps.proofs.file.+declared_name.Goals as goal
 

@@ -1,4 +1,4 @@
-use Rattle.std.proofs.Common.{◌≡◌, ℕ, List, ◌++◌, Some, None, sym, ap, ◌∙◌, append-nil}
+use Rattle.std.proofs.Common.{ℕ, List, ◌++◌, Some, None, sym, ap, ◌∙◌, append-nil}
 use Rattle.c_jumps.proofs.Files.{name_of_function}
 use Rattle.c_jumps.proofs.file.push_function.Goals as goal
 

@@ -1,4 +1,4 @@
-use Rattle.std.proofs.Common.{◌≡◌, ◌∙◌}
+use Rattle.std.proofs.Common.{◌∙◌}
 use Rattle.c_tree.specs.Jumps.{block_jumps}
 use Rattle.c_tree.specs.Lexemes.{spelling_at}
 use Rattle.c_jumps.proofs.Files.{faults_of_function, walk_leaves}

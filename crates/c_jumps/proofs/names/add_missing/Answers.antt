@@ -1,4 +1,4 @@
-use Rattle.std.proofs.Common.{◌≡◌, ℕ, List, [], get_or, refl, subst}
+use Rattle.std.proofs.Common.{ℕ, List, [], get_or, refl, subst}
 use Rattle.std.proofs.lemmas.List.{take_all}
 use Rattle.c_tree.specs.Jumps.{MissingLabel}
 use Rattle.c_tree.specs.Lexemes.{spelling_at}

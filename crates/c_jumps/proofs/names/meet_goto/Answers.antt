@@ -1,5 +1,4 @@
-use Rattle.std.proofs.Common.{◌≡◌, refl, subst}
-use Rattle.std.proofs.lemmas.Result.{on_ok_weaker}
+use Rattle.std.proofs.Common.{refl, subst}
 use Rattle.std.specs.List.{Contains}
 use Rattle.c_jumps.specs.Names as meets
 use Rattle.c_jumps.proofs.Adding.{known_name}

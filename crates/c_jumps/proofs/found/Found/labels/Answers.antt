@@ -1,6 +1,6 @@
-use Rattle.std.proofs.Common.{◌≡◌, sym, ◌∙◌}
+use Rattle.std.proofs.Common.{sym}
 use Rattle.c_jumps.specs.Walk.{mark_jumps}
-use Rattle.c_jumps.proofs.Parts.{all_added, one_more_added, with_parts-nil}
+use Rattle.c_jumps.proofs.Parts.{one_more_added, with_parts-nil}
 use Rattle.c_jumps.proofs.found.Found.labels.Goals as goal
 
 pub loop-label-init : goal.loop-label-init
