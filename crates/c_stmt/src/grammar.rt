@@ -39,7 +39,7 @@ pub trait Below {
 }
 
 /// Readers of what stands in braces or is a body, where so many levels are left.
-pub trait Inside {
+pub(crate) trait Inside {
     ghost use Rattle.std.specs.Prelude.{ℕ};
     ghost use Rattle.c_stmt.specs.Below.{InsideReaders};
 
@@ -64,12 +64,12 @@ pub trait Inside {
 
 /// The rules, with the readers of what they are made of and of what they hold in braces.
 #[derive(Clone, Copy)]
-pub struct Grammar<B, I> {
-    pub alloc: Global,
+pub(crate) struct Grammar<B, I> {
+    pub(crate) alloc: Global,
     /// How many levels are left.
-    pub room: usize,
-    pub below: B,
-    pub inside: I,
+    pub(crate) room: usize,
+    pub(crate) below: B,
+    pub(crate) inside: I,
 }
 
 impl<B: Below, I: Inside> Grammar<B, I> {

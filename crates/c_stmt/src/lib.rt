@@ -13,4 +13,5 @@ mod selection;
 mod statements;
 
 pub use forms::{Arm, Arms, BlockItems, Ended, ForHead, Kinded, MaybeExpr};
-pub use grammar::{Below, Grammar, Inside};
+pub use grammar::Below;
+pub use knot::{read_block, read_statement};
