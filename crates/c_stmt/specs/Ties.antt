@@ -18,7 +18,7 @@ pub record Ties {B : Type 0} (readers : BelowReaders) (below : B) (room : ℕ)
     (item_post : Global → B → ℕ → MutBor Source → Result BlockItem Stop → MutBor Source → Type 0)
     (statement_pre : Global → B → ℕ → MutBor Source → Type 0)
     (statement_post : Global → B → ℕ → MutBor Source → Result Ended Stop → MutBor Source →
-        Type 0) : Type 0 where
+    Type 0) : Type 0 where
   pub item_callable : (alloc : Global) (old : MutBor Source) → item_pre alloc below room old
   pub item_reads : (alloc : Global) (old new : MutBor Source) (r : Result BlockItem Stop) →
       item_post alloc below room old r new →
