@@ -1,6 +1,6 @@
 -- Expressions, type names and declarations are read exactly, on each level.
 
-use Rattle.std.proofs.Common.{◌≡◌, ℕ, suc, ◌+◌, ◌<◌, ◌≤◌, true, List, [], ◌∷◌, ◌++◌, refl, arith}
+use Rattle.std.proofs.Common.{◌≡◌, ℕ, suc, ◌+◌, ◌<◌, ◌≤◌, true, List, [], refl, arith}
 use Rattle.c_lexer.specs.declared.token.Kind.{Kind}
 use Rattle.c_scopes.specs.Scopes.{OpenScopes}
 use Rattle.reading.specs.Terminals.{has}
@@ -16,7 +16,7 @@ use Rattle.c_reading.specs.Terminals.{terminal}
 use Rattle.c_syntax.specs.declared.forms.AssignForm.{AssignForm}
 use Rattle.c_syntax.specs.declared.forms.AssignForm.TheVariants.{Whole, Constant}
 use Rattle.c_syntax.specs.Scoping.{Part, PartReader}
-use Rattle.c_syntax.specs.Sets.{begins_assign, an_item}
+use Rattle.c_syntax.specs.Sets.{begins_assign}
 use Rattle.c_syntax.specs.ExpressionRules as expression
 use Rattle.c_syntax.specs.ExpressionReaders as expression_reader
 use Rattle.c_syntax.proofs.Readings as expressions
@@ -24,7 +24,7 @@ use Rattle.c_syntax.proofs.ExpressionsAreRead.{after_assign, InnerAreRead, forme
 use Rattle.c_specifiers.specs.declared.forms.Place.TheVariants.{Parameter, Nameless}
 use Rattle.c_specifiers.specs.DeclarationSets.{begins_specifiers}
 use Rattle.c_specifiers.proofs.DeclarationReadings.{Tokens, IsRead, needed, InsideAreRead, begins_member, begins_group, begins_item}
-use Rattle.c_specifiers.proofs.DeclarationReadings.{after_type_name, after_param, after_either, nothing}
+use Rattle.c_specifiers.proofs.DeclarationReadings.{after_type_name, after_param, after_either}
 use Rattle.c_declarators.proofs.DeclaratorsAreRead.{type_name_is_read, param_is_read, grouped_is_read}
 use Rattle.c_declarations.proofs.InitialisersAreRead.{item_is_read}
 use Rattle.c_declarations.proofs.DeclarationsAreRead.{member_is_read, declaration_is_read}

@@ -1,6 +1,6 @@
 -- A number is an assignment expression of each form (C11 6.4.4, 6.5.16).
 
-use Rattle.std.proofs.Common.{◌≡◌, inl, inr, ℕ, suc, Bool, true, false, List, [], ◌∷◌, ◌++◌, refl}
+use Rattle.std.proofs.Common.{inl, inr, ℕ, suc, Bool, true, false, List, [], ◌∷◌, refl}
 use Rattle.c_lexer.specs.declared.token.Kind.TheVariants.{Number}
 use Rattle.c_tree.specs.declared.tree.Assign.{Assign}
 use Rattle.c_tree.specs.declared.tree.Prefix.{Prefix}

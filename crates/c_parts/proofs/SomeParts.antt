@@ -1,6 +1,6 @@
 -- Each part that stands in brackets has a word that needs none in its own brackets.
 
-use Rattle.std.proofs.Common.{◌≡◌, inl, inr, ℕ, zero, suc, ◌≤◌, Bool, true, false, List, [], ◌∷◌, ◌++◌, refl, arith}
+use Rattle.std.proofs.Common.{inl, inr, ℕ, zero, suc, ◌≤◌, false, List, [], ◌∷◌, ◌++◌, refl, arith}
 use Rattle.c_lexer.specs.declared.keyword.TheConstants.{KEY_INT}
 use Rattle.c_lexer.specs.declared.mark.TheConstants.{MARK_STAR, MARK_SEMICOLON}
 use Rattle.c_lexer.specs.declared.token.Kind.TheVariants.{Word, Key, Mark}
@@ -22,14 +22,12 @@ use Rattle.reading.proofs.ReadSteps.{stops}
 use Rattle.reading.proofs.ReadTurns.{ends}
 use Rattle.c_reading.specs.Kept.{KeptToken}
 use Rattle.c_reading.specs.Terminals.{mark}
-use Rattle.c_syntax.specs.declared.forms.AssignForm.{AssignForm}
-use Rattle.c_syntax.specs.declared.forms.AssignForm.TheVariants.{Whole, Constant}
+use Rattle.c_syntax.specs.declared.forms.AssignForm.TheVariants.{Whole}
 use Rattle.c_syntax.specs.Scoping.{Part, terminal_of}
 use Rattle.c_syntax.specs.Sets.{any_name, a_basic_type}
 use Rattle.c_specifiers.specs.Words.{word_of}
 use Rattle.c_specifiers.specs.declared.forms.Place.{Place}
 use Rattle.c_specifiers.specs.declared.forms.Place.TheVariants.{Parameter, Member, Nameless}
-use Rattle.c_specifiers.specs.declared.forms.Naming.{Naming}
 use Rattle.c_specifiers.specs.declared.forms.Naming.TheVariants as naming
 use Rattle.c_specifiers.specs.declared.forms.Specified.{Specified}
 use Rattle.c_declarators.specs.declared.forms.Pointing.{Pointing}
