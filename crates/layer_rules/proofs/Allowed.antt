@@ -6,7 +6,10 @@ use Rattle.graph_forest.specs.declared.hang.Hang.{Hang}
 use Rattle.graph_forest.specs.declared.hang.Hang.TheVariants.{Plain, Argument as AsArgument, Condition}
 use Rattle.graph_forest.specs.declared.rank.Rank.{Rank}
 use Rattle.graph_forest.specs.Ranks.{child, condition, argument, pointer_argument}
-use Rattle.graph_forest.specs.Forest.{Forest, beside, leaf, may_hang, IsAllowed, IsAllowedUnder}
+use Rattle.graph_forest.specs.Forest.{Forest, may_hang, IsAllowed, IsAllowedUnder, planted, IsPlanted}
+use Rattle.graph_forest.proofs.Fitting.{planted_fits}
+use Rattle.cpg_schema.specs.Fitting.{Fits}
+use Rattle.cpg_schema.specs.Graph.{PlainGraph}
 use Rattle.graph_forest.proofs.Allowing.{allowed-beside}
 use Rattle.c_tree.specs.declared.tree.Unit.{Unit as Tree}
 use Rattle.layer_rules.specs.Files.{File}
@@ -259,3 +262,14 @@ global_allowed file held =
 pub file_allowed : (file : File) (unit : Tree) → IsAllowed (file_forest file unit)
 unfolding file_forest
 file_allowed file unit = global_allowed file (externals file [] unit.items)
+
+-- What a file adds.
+pub file_planted : (file : File) (unit : Tree) → IsPlanted (planted (file_forest file unit))
+file_planted file unit = record {
+  forest = file_forest file unit;
+  allowed = file_allowed file unit;
+  is = refl;
+}
+
+pub file_fits : (file : File) (unit : Tree) (graph : PlainGraph) → Fits graph (planted (file_forest file unit))
+file_fits file unit graph = planted_fits graph (planted (file_forest file unit)) (file_planted file unit)

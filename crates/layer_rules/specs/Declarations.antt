@@ -50,7 +50,7 @@ function_or_object (Some signature) declarator text = Function declarator.name �
 function_or_object None declarator text =
     Object declarator.name text ∷ initialised declarator.name declarator.init
 
--- What a declarator behind specifiers declares. The initialiser of a typedef or of a function has no
+-- What a declarator behind specifiers declares. The initialiser of a typedef or a function has no
 -- node.
 abbrev pub declares : Meaning → Meaning → List Declared
 declares specs declarator =

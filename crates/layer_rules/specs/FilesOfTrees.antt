@@ -22,7 +22,7 @@ use Rattle.layer_rules.specs.StatementsOfTrees.{body_items}
 
 -- ---- Linkage (6.2.2)
 
--- The names, by their bytes, that an item declares with `static` at file scope: functions, and ours,
+-- The bytes of the names that an item declares with `static` at file scope: functions, and ours,
 -- objects and typedefs too.
 abbrev pub static_names : File → Item → List (List ℕ)
 static_names file (item.Define specs declarator body) =

@@ -18,8 +18,8 @@ pub record Parameter : Type 0 where
   pub bodies : List Body
   pub is_void : Bool
 
--- A function (6.9.1): its name, whether its linkage is internal, its parameters, the `{` of its body
--- and what stands in it, and the type text of what it returns.
+-- A function (6.9.1): its name, whether its linkage is internal, its parameters, the `{` of its
+-- body and what stands in it, and the type text of what it returns.
 pub record Defined : Type 0 where
   pub name : Option ℕ
   pub internal : Bool
