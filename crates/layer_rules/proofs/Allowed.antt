@@ -76,47 +76,71 @@ mutual
   term_allowed file parent rank (Name token) may = (may.name, tt, tt)
   term_allowed file parent rank (Literal tokens) may = (may.literal, tt, tt)
   term_allowed file parent rank (Parens opening inner) may = term_allowed file parent rank inner may
-  term_allowed file parent rank (Subscript array index) may =
-      (may.call, allowed-beside _ _ _
+  term_allowed file parent rank (Subscript array index) may = (
+    may.call,
+    allowed-beside _ _ _
         (term_allowed file label.Call (argument 1) array (as_argument 1))
-        (term_allowed file label.Call (argument 2) index (as_argument 2)), tt)
+        (term_allowed file label.Call (argument 2) index (as_argument 2)),
+    tt,
+  )
   term_allowed file parent rank (Call callee arguments) may =
       call_allowed file parent rank (sole_name callee) callee _ _ _ may
       (term_allowed file label.Call (pointer_argument 0) callee (as_argument 0))
       (terms_allowed file argument (λ index. as_argument index) 1 arguments)
       (terms_allowed file pointer_argument (λ index. as_argument index) 1 arguments)
-  term_allowed file parent rank (Dot operand member) may =
-      (may.call, allowed-beside _ _ _
-        (term_allowed file label.Call (argument 1) operand (as_argument 1)) (refl, tt, tt), tt)
-  term_allowed file parent rank (Arrow operand member) may =
-      (may.call, allowed-beside _ _ _
-        (term_allowed file label.Call (argument 1) operand (as_argument 1)) (refl, tt, tt), tt)
+  term_allowed file parent rank (Dot operand member) may = (
+    may.call,
+    allowed-beside _ _ _
+        (term_allowed file label.Call (argument 1) operand (as_argument 1)) (refl, tt, tt),
+    tt,
+  )
+  term_allowed file parent rank (Arrow operand member) may = (
+    may.call,
+    allowed-beside _ _ _
+        (term_allowed file label.Call (argument 1) operand (as_argument 1)) (refl, tt, tt),
+    tt,
+  )
   term_allowed file parent rank (Postfix operand operator) may =
       (may.call, term_allowed file label.Call (argument 1) operand (as_argument 1), tt)
-  term_allowed file parent rank (CompoundLiteral opening type list) may =
-      (may.call, allowed-beside _ _ _ (type_allowed file 1 type)
-        (term_allowed file label.Call (argument 2) list (as_argument 2)), tt)
+  term_allowed file parent rank (CompoundLiteral opening type list) may = (
+    may.call,
+    allowed-beside _ _ _ (type_allowed file 1 type)
+        (term_allowed file label.Call (argument 2) list (as_argument 2)),
+    tt,
+  )
   term_allowed file parent rank (Prefix operator operand) may =
       (may.call, term_allowed file label.Call (argument 1) operand (as_argument 1), tt)
   term_allowed file parent rank (SizeOfType operator type) may =
       (may.call, type_allowed file 1 type, tt)
-  term_allowed file parent rank (Cast opening type operand) may =
-      (may.call, allowed-beside _ _ _ (type_allowed file 1 type)
-        (term_allowed file label.Call (argument 2) operand (as_argument 2)), tt)
-  term_allowed file parent rank (Infix operator left right) may =
-      (may.call, allowed-beside _ _ _
+  term_allowed file parent rank (Cast opening type operand) may = (
+    may.call,
+    allowed-beside _ _ _ (type_allowed file 1 type)
+        (term_allowed file label.Call (argument 2) operand (as_argument 2)),
+    tt,
+  )
+  term_allowed file parent rank (Infix operator left right) may = (
+    may.call,
+    allowed-beside _ _ _
         (term_allowed file label.Call (argument 1) left (as_argument 1))
-        (term_allowed file label.Call (argument 2) right (as_argument 2)), tt)
-  term_allowed file parent rank (Conditional test then other) may =
-      (may.call, allowed-beside _ _ _
+        (term_allowed file label.Call (argument 2) right (as_argument 2)),
+    tt,
+  )
+  term_allowed file parent rank (Conditional test then other) may = (
+    may.call,
+    allowed-beside _ _ _
         (term_allowed file label.Call (argument 1) test (as_argument 1))
         (allowed-beside _ _ _
-          (term_allowed file label.Call (argument 2) then (as_argument 2))
-          (term_allowed file label.Call (argument 3) other (as_argument 3))), tt)
-  term_allowed file parent rank (Comma left right) may =
-      (may.call, allowed-beside _ _ _
+        (term_allowed file label.Call (argument 2) then (as_argument 2))
+        (term_allowed file label.Call (argument 3) other (as_argument 3))),
+    tt,
+  )
+  term_allowed file parent rank (Comma left right) may = (
+    may.call,
+    allowed-beside _ _ _
         (term_allowed file label.Call (argument 1) left (as_argument 1))
-        (term_allowed file label.Call (argument 2) right (as_argument 2)), tt)
+        (term_allowed file label.Call (argument 2) right (as_argument 2)),
+    tt,
+  )
   term_allowed file parent rank (Initialisers brace items) may =
       (may.call, terms_allowed file argument (λ index. as_argument index) 1 items, tt)
 
@@ -143,19 +167,29 @@ plainly = record { call = refl; name = refl; literal = refl }
 
 in_block : MayDo label.Block
 in_block = record {
-  part = plainly; block = refl; control = refl; target = refl; leave = refl;
+  part = plainly;
+  block = refl;
+  control = refl;
+  target = refl;
+  leave = refl;
 }
 
 in_control : MayDo label.ControlStructure
 in_control = record {
   part = record { call = refl; name = refl; literal = refl };
-  block = refl; control = refl; target = refl; leave = refl;
+  block = refl;
+  control = refl;
+  target = refl;
+  leave = refl;
 }
 
 in_target : MayDo label.JumpTarget
 in_target = record {
   part = record { call = refl; name = refl; literal = refl };
-  block = refl; control = refl; target = refl; leave = refl;
+  block = refl;
+  control = refl;
+  target = refl;
+  leave = refl;
 }
 
 as_condition : MayHold label.ControlStructure Condition
@@ -170,9 +204,12 @@ declared_allowed file order (WithBody body) = (refl, members_allowed file 1 body
 declared_allowed file order (Typedef name text) = (refl, tt, tt)
 declared_allowed file order (Function name) = (refl, tt, tt)
 declared_allowed file order (Object name text) = (refl, tt, tt)
-declared_allowed file order (Initialised name value) =
-    (refl, allowed-beside _ _ _ (refl, tt, tt)
-      (term_allowed file label.Call (argument 2) value (as_argument 2)), tt)
+declared_allowed file order (Initialised name value) = (
+  refl,
+  allowed-beside _ _ _ (refl, tt, tt)
+      (term_allowed file label.Call (argument 2) value (as_argument 2)),
+  tt,
+)
 
 optional_allowed : (file : File) (parent : Label) (rank : Rank) (term : Option Term) →
     MayHold parent rank.hang → IsAllowedUnder (Some parent) (optional_forest file rank term)
@@ -183,39 +220,57 @@ mutual
   statement_allowed : (file : File) (parent : Label) (order : ℕ) (statement : Statement) →
       MayDo parent → IsAllowedUnder (Some parent) (statement_forest file (child order) statement)
   statement_allowed file parent order Nothing may = tt
-  statement_allowed file parent order (Labelled target statement) may =
-      (may.target, allowed-beside _ _ _
+  statement_allowed file parent order (Labelled target statement) may = (
+    may.target,
+    allowed-beside _ _ _
         (optional_allowed file label.JumpTarget (child 1) target.value in_target.part)
-        (statement_allowed file label.JumpTarget 2 statement in_target), tt)
+        (statement_allowed file label.JumpTarget 2 statement in_target),
+    tt,
+  )
   statement_allowed file parent order (Compound first items) may =
       (may.block, items_allowed file 1 items, tt)
   statement_allowed file parent order (Value term) may =
       term_allowed file parent (child order) term may.part
-  statement_allowed file parent order (If key test body other) may =
-      (may.control, allowed-beside _ _ _
+  statement_allowed file parent order (If key test body other) may = (
+    may.control,
+    allowed-beside _ _ _
         (term_allowed file label.ControlStructure (condition 1) test as_condition)
         (allowed-beside _ _ _ (statement_allowed file label.ControlStructure 2 body in_control)
-          (statement_allowed file label.ControlStructure 3 other in_control)), tt)
-  statement_allowed file parent order (Switch key test body) may =
-      (may.control, allowed-beside _ _ _
+        (statement_allowed file label.ControlStructure 3 other in_control)),
+    tt,
+  )
+  statement_allowed file parent order (Switch key test body) may = (
+    may.control,
+    allowed-beside _ _ _
         (term_allowed file label.ControlStructure (condition 1) test as_condition)
-        (statement_allowed file label.ControlStructure 2 body in_control), tt)
-  statement_allowed file parent order (While key test body) may =
-      (may.control, allowed-beside _ _ _
+        (statement_allowed file label.ControlStructure 2 body in_control),
+    tt,
+  )
+  statement_allowed file parent order (While key test body) may = (
+    may.control,
+    allowed-beside _ _ _
         (term_allowed file label.ControlStructure (condition 1) test as_condition)
-        (statement_allowed file label.ControlStructure 2 body in_control), tt)
-  statement_allowed file parent order (Do key body test) may =
-      (may.control, allowed-beside _ _ _
+        (statement_allowed file label.ControlStructure 2 body in_control),
+    tt,
+  )
+  statement_allowed file parent order (Do key body test) may = (
+    may.control,
+    allowed-beside _ _ _
         (statement_allowed file label.ControlStructure 1 body in_control)
-        (term_allowed file label.ControlStructure (condition 2) test as_condition), tt)
-  statement_allowed file parent order (For key first test step body) may =
-      (may.control, allowed-beside _ _ _
+        (term_allowed file label.ControlStructure (condition 2) test as_condition),
+    tt,
+  )
+  statement_allowed file parent order (For key first test step body) may = (
+    may.control,
+    allowed-beside _ _ _
         (statement_allowed file label.ControlStructure 1 first in_control)
         (allowed-beside _ _ _
-          (optional_allowed file label.ControlStructure (condition 2) test as_condition)
-          (allowed-beside _ _ _
-            (optional_allowed file label.ControlStructure (child 3) step in_control.part)
-            (statement_allowed file label.ControlStructure 4 body in_control))), tt)
+        (optional_allowed file label.ControlStructure (condition 2) test as_condition)
+        (allowed-beside _ _ _
+        (optional_allowed file label.ControlStructure (child 3) step in_control.part)
+        (statement_allowed file label.ControlStructure 4 body in_control))),
+    tt,
+  )
   statement_allowed file parent order (Goto key target) may = (may.control, tt, tt)
   statement_allowed file parent order (Continue key) may = (may.control, tt, tt)
   statement_allowed file parent order (Break key) may = (may.control, tt, tt)
@@ -242,9 +297,12 @@ parameters_allowed file order (first ∷ parameters) =
 
 function_allowed : (file : File) (order : ℕ) (function : Defined) →
     IsAllowedUnder (Some label.Block) (function_forest file order function)
-function_allowed file order function =
-    (refl, allowed-beside _ _ _ (parameters_allowed file 1 function.parameters)
-      (allowed-beside _ _ _ (refl, items_allowed file 1 function.items, tt) (refl, tt, tt)), tt)
+function_allowed file order function = (
+  refl,
+  allowed-beside _ _ _ (parameters_allowed file 1 function.parameters)
+      (allowed-beside _ _ _ (refl, items_allowed file 1 function.items, tt) (refl, tt, tt)),
+  tt,
+)
 
 externals_allowed : (file : File) (order : ℕ) (held : List External) →
     IsAllowedUnder (Some label.Block) (externals_forest file order held)

@@ -41,7 +41,7 @@ call_forest file rank (Some name) term callee by_name by_pointer =
     branch rank.hang
     (call_node file (Some (spelling_at file (Some name))) (first_token term) rank) by_name
 call_forest file rank None term callee by_name by_pointer =
-    operator_forest file rank (Some (operator (codes "pointerCall"))) term
+    operator_forest file rank (Some (operator "pointerCall")) term
     (beside callee by_pointer)
 
 abbrev mutual
@@ -52,18 +52,18 @@ abbrev mutual
   term_forest file rank (Parens opening inner) = term_forest file rank inner
   -- Each operator is a CALL with its operands as arguments.
   term_forest file rank (Subscript array index) =
-      operator_forest file rank (Some (operator (codes "indexAccess"))) (Subscript array index)
+      operator_forest file rank (Some (operator "indexAccess")) (Subscript array index)
       (beside (term_forest file (argument 1) array) (term_forest file (argument 2) index))
   term_forest file rank (Call callee arguments) =
       call_forest file rank (sole_name callee) callee
       (term_forest file (pointer_argument 0) callee)
       (terms_forest file argument 1 arguments) (terms_forest file pointer_argument 1 arguments)
   term_forest file rank (Dot operand member) =
-      operator_forest file rank (Some (operator (codes "fieldAccess"))) (Dot operand member)
+      operator_forest file rank (Some (operator "fieldAccess")) (Dot operand member)
       (beside (term_forest file (argument 1) operand)
       (leaf (argument 2).hang (field_node file member (argument 2))))
   term_forest file rank (Arrow operand member) =
-      operator_forest file rank (Some (operator (codes "indirectFieldAccess")))
+      operator_forest file rank (Some (operator "indirectFieldAccess"))
       (Arrow operand member)
       (beside (term_forest file (argument 1) operand)
       (leaf (argument 2).hang (field_node file member (argument 2))))
@@ -71,7 +71,7 @@ abbrev mutual
       operator_forest file rank (postfix_name file token) (Postfix operand token)
       (term_forest file (argument 1) operand)
   term_forest file rank (CompoundLiteral opening type list) =
-      operator_forest file rank (Some (operator (codes "compoundLiteral")))
+      operator_forest file rank (Some (operator "compoundLiteral"))
       (CompoundLiteral opening type list)
       (beside (type_forest file (argument 1) type) (term_forest file (argument 2) list))
   term_forest file rank (Prefix token operand) =
@@ -81,22 +81,22 @@ abbrev mutual
       operator_forest file rank (prefix_name file token) (SizeOfType token type)
       (type_forest file (argument 1) type)
   term_forest file rank (Cast opening type operand) =
-      operator_forest file rank (Some (operator (codes "cast"))) (Cast opening type operand)
+      operator_forest file rank (Some (operator "cast")) (Cast opening type operand)
       (beside (type_forest file (argument 1) type) (term_forest file (argument 2) operand))
   term_forest file rank (Infix token left right) =
       operator_forest file rank (infix_name file token) (Infix token left right)
       (beside (term_forest file (argument 1) left) (term_forest file (argument 2) right))
   term_forest file rank (Conditional test then other) =
-      operator_forest file rank (Some (operator (codes "conditional")))
+      operator_forest file rank (Some (operator "conditional"))
       (Conditional test then other)
       (beside (term_forest file (argument 1) test)
       (beside (term_forest file (argument 2) then) (term_forest file (argument 3) other)))
   term_forest file rank (Comma left right) =
-      operator_forest file rank (Some (operator (codes "comma"))) (Comma left right)
+      operator_forest file rank (Some (operator "comma")) (Comma left right)
       (beside (term_forest file (argument 1) left) (term_forest file (argument 2) right))
   -- An initialiser list is a CALL with its items as arguments. Designators have no node.
   term_forest file rank (Initialisers brace items) =
-      operator_forest file rank (Some (operator (codes "arrayInitializer")))
+      operator_forest file rank (Some (operator "arrayInitializer"))
       (Initialisers brace items) (terms_forest file argument 1 items)
 
   -- Arguments, with indexes from `index` on.

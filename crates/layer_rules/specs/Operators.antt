@@ -2,6 +2,7 @@
 -- of Joern has them.
 use Rattle.std.specs.Prelude.{ℕ, ◌==◌, List, [], ◌∷◌, ◌++◌, Option, Some, None, codes}
 use Rattle.std.specs.Prelude.{if◌then◌else◌}
+use Prim.Native.String.{String}
 use Rattle.std.specs.List.{flat_map}
 use Rattle.c_lexer.specs.declared.token.Kind.{Kind}
 use Rattle.c_lexer.specs.declared.token.Kind.TheVariants as kind
@@ -21,61 +22,61 @@ use Rattle.c_lexer.specs.declared.mark.TheConstants.{MARK_RIGHT_SHIFT_EQUAL, MAR
 use Rattle.c_lexer.specs.declared.mark.TheConstants.{MARK_CARET_EQUAL, MARK_BAR_EQUAL}
 
 -- The name of an operation.
-abbrev pub operator : List ℕ → List ℕ
-operator operation = codes "<operator>." ++ operation
+abbrev pub operator : String → List ℕ
+operator operation = codes "<operator>." ++ codes operation
 
 -- An operator: the number of its mark or keyword, and its name.
 pub record Operator : Type 0 where
   pub number : ℕ
   pub name : List ℕ
 
-abbrev pub named_operator : ℕ → List ℕ → Operator
+abbrev pub named_operator : ℕ → String → Operator
 named_operator number operation = record { number = number; name = operator operation }
 
 -- The binary operators, those of each precedence together, from those that bind least.
 abbrev pub precedences : List (List Operator)
 precedences =
     -- 6.5.14, 6.5.13.
-    (named_operator MARK_OR_OR (codes "logicalOr") ∷ []) ∷
-    (named_operator MARK_AND_AND (codes "logicalAnd") ∷ []) ∷
+    (named_operator MARK_OR_OR "logicalOr" ∷ []) ∷
+    (named_operator MARK_AND_AND "logicalAnd" ∷ []) ∷
     -- 6.5.12 to 6.5.10.
-    (named_operator MARK_BAR (codes "or") ∷ []) ∷
-    (named_operator MARK_CARET (codes "xor") ∷ []) ∷
-    (named_operator MARK_AMPERSAND (codes "and") ∷ []) ∷
+    (named_operator MARK_BAR "or" ∷ []) ∷
+    (named_operator MARK_CARET "xor" ∷ []) ∷
+    (named_operator MARK_AMPERSAND "and" ∷ []) ∷
     -- 6.5.9.
-    (named_operator MARK_EQUAL_EQUAL (codes "equals") ∷
-    named_operator MARK_NOT_EQUAL (codes "notEquals") ∷ []) ∷
+    (named_operator MARK_EQUAL_EQUAL "equals" ∷
+    named_operator MARK_NOT_EQUAL "notEquals" ∷ []) ∷
     -- 6.5.8.
-    (named_operator MARK_LESS (codes "lessThan") ∷
-    named_operator MARK_GREATER (codes "greaterThan") ∷
-    named_operator MARK_LESS_EQUAL (codes "lessEquals") ∷
-    named_operator MARK_GREATER_EQUAL (codes "greaterEquals") ∷ []) ∷
+    (named_operator MARK_LESS "lessThan" ∷
+    named_operator MARK_GREATER "greaterThan" ∷
+    named_operator MARK_LESS_EQUAL "lessEquals" ∷
+    named_operator MARK_GREATER_EQUAL "greaterEquals" ∷ []) ∷
     -- 6.5.7.
-    (named_operator MARK_LEFT_SHIFT (codes "shiftLeft") ∷
-    named_operator MARK_RIGHT_SHIFT (codes "shiftRight") ∷ []) ∷
+    (named_operator MARK_LEFT_SHIFT "shiftLeft" ∷
+    named_operator MARK_RIGHT_SHIFT "shiftRight" ∷ []) ∷
     -- 6.5.6.
-    (named_operator MARK_PLUS (codes "addition") ∷
-    named_operator MARK_MINUS (codes "subtraction") ∷ []) ∷
+    (named_operator MARK_PLUS "addition" ∷
+    named_operator MARK_MINUS "subtraction" ∷ []) ∷
     -- 6.5.5.
-    (named_operator MARK_STAR (codes "multiplication") ∷
-    named_operator MARK_SLASH (codes "division") ∷
-    named_operator MARK_PERCENT (codes "modulo") ∷ []) ∷
+    (named_operator MARK_STAR "multiplication" ∷
+    named_operator MARK_SLASH "division" ∷
+    named_operator MARK_PERCENT "modulo" ∷ []) ∷
     []
 
 -- The assignment operators (6.5.16).
 abbrev pub assignments : List Operator
 assignments =
-    named_operator MARK_EQUAL (codes "assignment") ∷
-    named_operator MARK_STAR_EQUAL (codes "assignmentMultiplication") ∷
-    named_operator MARK_SLASH_EQUAL (codes "assignmentDivision") ∷
-    named_operator MARK_PERCENT_EQUAL (codes "assignmentModulo") ∷
-    named_operator MARK_PLUS_EQUAL (codes "assignmentPlus") ∷
-    named_operator MARK_MINUS_EQUAL (codes "assignmentMinus") ∷
-    named_operator MARK_LEFT_SHIFT_EQUAL (codes "assignmentShiftLeft") ∷
-    named_operator MARK_RIGHT_SHIFT_EQUAL (codes "assignmentShiftRight") ∷
-    named_operator MARK_AMPERSAND_EQUAL (codes "assignmentAnd") ∷
-    named_operator MARK_CARET_EQUAL (codes "assignmentXor") ∷
-    named_operator MARK_BAR_EQUAL (codes "assignmentOr") ∷
+    named_operator MARK_EQUAL "assignment" ∷
+    named_operator MARK_STAR_EQUAL "assignmentMultiplication" ∷
+    named_operator MARK_SLASH_EQUAL "assignmentDivision" ∷
+    named_operator MARK_PERCENT_EQUAL "assignmentModulo" ∷
+    named_operator MARK_PLUS_EQUAL "assignmentPlus" ∷
+    named_operator MARK_MINUS_EQUAL "assignmentMinus" ∷
+    named_operator MARK_LEFT_SHIFT_EQUAL "assignmentShiftLeft" ∷
+    named_operator MARK_RIGHT_SHIFT_EQUAL "assignmentShiftRight" ∷
+    named_operator MARK_AMPERSAND_EQUAL "assignmentAnd" ∷
+    named_operator MARK_CARET_EQUAL "assignmentXor" ∷
+    named_operator MARK_BAR_EQUAL "assignmentOr" ∷
     []
 
 -- The operators with an operand on each side.
@@ -85,28 +86,28 @@ infix_operators = flat_map (λ operators. operators) precedences ++ assignments
 -- The marks that stand before their operand (6.5.3).
 abbrev pub prefix_operators : List Operator
 prefix_operators =
-    named_operator MARK_AMPERSAND (codes "addressOf") ∷
-    named_operator MARK_STAR (codes "indirection") ∷
-    named_operator MARK_PLUS (codes "plus") ∷
-    named_operator MARK_MINUS (codes "minus") ∷
-    named_operator MARK_TILDE (codes "not") ∷
-    named_operator MARK_EXCLAMATION (codes "logicalNot") ∷
-    named_operator MARK_PLUS_PLUS (codes "preIncrement") ∷
-    named_operator MARK_MINUS_MINUS (codes "preDecrement") ∷
+    named_operator MARK_AMPERSAND "addressOf" ∷
+    named_operator MARK_STAR "indirection" ∷
+    named_operator MARK_PLUS "plus" ∷
+    named_operator MARK_MINUS "minus" ∷
+    named_operator MARK_TILDE "not" ∷
+    named_operator MARK_EXCLAMATION "logicalNot" ∷
+    named_operator MARK_PLUS_PLUS "preIncrement" ∷
+    named_operator MARK_MINUS_MINUS "preDecrement" ∷
     []
 
 -- The keywords that do (6.5.3.4).
 abbrev pub key_operators : List Operator
 key_operators =
-    named_operator KEY_SIZEOF (codes "sizeOf") ∷
-    named_operator KEY_ALIGNOF (codes "alignOf") ∷
+    named_operator KEY_SIZEOF "sizeOf" ∷
+    named_operator KEY_ALIGNOF "alignOf" ∷
     []
 
 -- The marks that stand behind it (6.5.2.4).
 abbrev pub postfix_operators : List Operator
 postfix_operators =
-    named_operator MARK_PLUS_PLUS (codes "postIncrement") ∷
-    named_operator MARK_MINUS_MINUS (codes "postDecrement") ∷
+    named_operator MARK_PLUS_PLUS "postIncrement" ∷
+    named_operator MARK_MINUS_MINUS "postDecrement" ∷
     []
 
 -- The name of the operator with the number, if it is among these.

@@ -29,7 +29,7 @@ pub data Declared : Type 0 where
 abbrev pub assignment_forest : File → Rank → ℕ → Term → Forest
 assignment_forest file rank name value =
     branch rank.hang
-    (call_node file (Some (operator (codes "assignment"))) (Some name) rank)
+    (call_node file (Some (operator "assignment")) (Some name) rank)
     (beside (leaf (argument 1).hang (identifier_node file name (argument 1)))
     (term_forest file (argument 2) value))
 
