@@ -1,6 +1,6 @@
 //! The place of a parser among the kept tokens of a file.
 
-ghost use Rattle.std.specs.Prelude.{◌≡◌, ◌∷◌, [], ◌<◌, ◌^◌, length};
+ghost use Rattle.std.specs.Prelude.{◌≡◌, ◌∷◌, [], ◌<◌, ◌^◌, length, drop};
 ghost use Rattle.std.specs.List.{All};
 ghost use Rattle.c_lexer.specs.Reading.{IsWithin};
 ghost use Rattle.reading.specs.Exact.{room_on};
@@ -106,6 +106,16 @@ impl<'t> Cursor<'t> {
         ensures { result ≡ first_kind self.now.left }
     {
         match item_at(self.tokens, self.kept, self.at) {
+            Some(token) => Some(token.kind),
+            None => None,
+        }
+    }
+
+    /// The kind of the token behind the next one, if there is one.
+    pub fn second(&self) -> Option<Kind>
+        ensures { result ≡ first_kind (drop 1 self.now.left) }
+    {
+        match item_at(self.tokens, self.kept, self.at + 1) {
             Some(token) => Some(token.kind),
             None => None,
         }

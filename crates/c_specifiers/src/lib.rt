@@ -1,9 +1,12 @@
 //! Declaration specifiers of C, read from kept tokens (C11 6.7.1 to 6.7.5).
 #![tactic(auto)]
 
+mod enumeration;
 mod forms;
 mod grammar;
 mod kinds;
+mod modifier;
+mod record;
 mod specifier;
 mod steps;
 

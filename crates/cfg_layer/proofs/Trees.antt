@@ -12,7 +12,7 @@ use Rattle.graph_parts.proofs.Tree.{one_parent}
 use Rattle.cfg_rules.specs.declared.rule.Rule.TheVariants as rule
 use Rattle.cfg_rules.specs.Member.{IsIn}
 use Rattle.cfg_rules.specs.Plan.{Construct, HasRule, IsPlan, JumpsTo, JumpsAt, RuleAt, part, parts_at, flat_part}
-use Rattle.cfg_layer.specs.Kinds.{Kind, HasKind, IsCase, kind_of, call, short_circuit, conditional, block, if_statement, while_loop, do_loop, for_loop, switch_statement, jump_target, return_jump}
+use Rattle.cfg_layer.specs.Kinds.{Kind, HasKind, IsCaseOrDefault, kind_of, call, short_circuit, conditional, block, if_statement, while_loop, do_loop, for_loop, switch_statement, jump_target, return_jump}
 use Rattle.cfg_layer.specs.Walked.{IsWalked}
 use Rattle.cfg_layer.specs.Jumps.{LeadsToLabel, LeadsToCase}
 use Rattle.cfg_layer.specs.Constructs.{IsRuleOf, AreNumbered, AreArguments, AreChildren, AreOfTarget, ArePartsOf, IsConstructOf, IsFunctionOf}
@@ -163,7 +163,7 @@ has_part plan x k c e = by (slice_get plan x) refl e where
 target_label : (graph : PlainGraph) (method node target : ℕ) → LeadsToLabel graph method node target ⊎ LeadsToCase graph method node target → IsNodeWith graph (HasKind jump_target) target
 target_label graph method node target (inl l) = let t = l.label.is.is_target in record { node = t.node; node_is = t.node_is; has = t.has.0 }
 target_label graph method node target (inr c) = by c.is.is_node.has where
-  by : IsCase c.is.is_node.node → IsNodeWith graph (HasKind jump_target) target
+  by : IsCaseOrDefault c.is.is_node.node → IsNodeWith graph (HasKind jump_target) target
   by (inl h) = record { node = c.is.is_node.node; node_is = c.is.is_node.node_is; has = h.0 }
   by (inr h) = record { node = c.is.is_node.node; node_is = c.is.is_node.node_is; has = h.0 }
 

@@ -15,10 +15,10 @@ use Rattle.cfg_rules.specs.Member.{IsIn}
 use Rattle.cfg_edges.specs.Reaching.{IsReached, here, on, reaches}
 use Rattle.cfg_edges.proofs.Reached.{TellsSame, reached, reaches_all}
 use Rattle.cfg_edges.proofs.Bools.{and_both, both_and, or_either, or_left, or_right}
-use Rattle.cfg_layer.specs.Kinds.{Kind, HasKind, IsLoop, IsLoopKind, IsLeft, IsPassedOver, IsTargetNamed, IsDefault, IsCase, kind_of, function, passed, size_of, while_loop, do_loop, for_loop, switch_statement, jump_target, goto_jump, break_jump, continue_jump}
+use Rattle.cfg_layer.specs.Kinds.{Kind, HasKind, IsLoop, IsLoopKind, IsLoopOrSwitch, IsPassedOver, IsTargetNamed, IsDefault, IsCaseOrDefault, kind_of, function, passed, size_of, while_loop, do_loop, for_loop, switch_statement, jump_target, goto_jump, break_jump, continue_jump}
 use Rattle.cfg_layer.specs.Walked.{IsUnevaluated, IsWalked, IsWalkedWith, operand, constant, body as walk_body, below as walk_below}
 use Rattle.cfg_layer.specs.Jumps.{IsInnermost, IsLabelIn, LeadsToLabel, LeadsToCase, IsBreakOf, IsContinueOf, IsDefaultOf}
-use Rattle.cfg_layer.specs.Tested.{is_number, is_kind, is_loop, is_left, is_passed_over, is_target_named, is_default, is_case, is_method, is_method_label, part_at, block_at, is_unevaluated, is_ast, is_step, steps_by, steps_down, is_walked_from, is_walked, ast_steps, leads_down, is_above, is_between, is_innermost, is_label_in, label_in, is_label_of, leads_to_label, belongs, leads_to_case, is_default_of, leads_to, is_break_of, is_continue_of}
+use Rattle.cfg_layer.specs.Tested.{is_number, is_kind, is_loop, is_loop_or_switch, is_passed_over, is_target_named, is_default, is_case_or_default, is_method, is_method_label, part_at, block_at, is_unevaluated, is_ast, is_step, steps_by, steps_down, is_walked_from, is_walked, ast_steps, leads_down, is_above, is_between, is_innermost, is_label_in, label_in, is_label_of, leads_to_label, belongs, leads_to_case, is_default_of, leads_to, is_break_of, is_continue_of}
 use Rattle.cfg_layer.proofs.Telling.{Tells, tells_both, tells_either, tells_not, tells_as, tells_equal, tells_name, tells_kind, tells_node, tells_least, tells_none, tells_found, one_least, node_within, part_found, block_found}
 
 -- ---- Kinds.
@@ -37,8 +37,8 @@ loop_kind _ h = absurd h
 pub tells_loop : (node : PlainNode) → Tells (is_loop node) (IsLoop node)
 tells_loop node = tells_as (tells_either (tells_kind while_loop node) (tells_either (tells_kind do_loop node) (tells_kind for_loop node))) (kind_loop (kind_of node)) (loop_kind (kind_of node))
 
-pub tells_left : (node : PlainNode) → Tells (is_left node) (IsLeft node)
-tells_left node = tells_either (tells_loop node) (tells_kind switch_statement node)
+pub tells_loop_or_switch : (node : PlainNode) → Tells (is_loop_or_switch node) (IsLoopOrSwitch node)
+tells_loop_or_switch node = tells_either (tells_loop node) (tells_kind switch_statement node)
 
 pub tells_passed_over : (node : PlainNode) → Tells (is_passed_over node) (IsPassedOver node)
 tells_passed_over node = tells_either (tells_kind passed node) (tells_kind function node)
@@ -49,8 +49,8 @@ tells_target_named name node = tells_both (tells_kind jump_target node) (tells_n
 pub tells_default : (node : PlainNode) → Tells (is_default node) (IsDefault node)
 tells_default node = tells_target_named (codes "default") node
 
-pub tells_case : (node : PlainNode) → Tells (is_case node) (IsCase node)
-tells_case node = tells_either (tells_target_named (codes "case") node) (tells_default node)
+pub tells_case_or_default : (node : PlainNode) → Tells (is_case_or_default node) (IsCaseOrDefault node)
+tells_case_or_default node = tells_either (tells_target_named (codes "case") node) (tells_default node)
 
 method_label : (l : Label) → is_method_label l ≡ true → l ≡ label.Method
 method_label label.Method e = refl
@@ -263,13 +263,13 @@ unfolding belongs
 tells_belongs graph method test outer P Q t u node around = tells_as (tells_both (tells_walked graph method node) (tells_both (tells_node graph test P node t) (tells_innermost graph outer Q u node around))) (λ h. record { is = record { walked = h.0; is_node = h.1.0 }; innermost = h.1.1 }) (λ h. (h.is.walked, (h.is.is_node, h.innermost)))
 
 pub tells_case_of : (graph : PlainGraph) (method node target : ℕ) → Tells (leads_to_case graph method node target) (LeadsToCase graph method node target)
-tells_case_of graph method node target = tells_as (tells_belongs graph method is_case (is_kind switch_statement) IsCase (HasKind switch_statement) tells_case (tells_kind switch_statement) target node) (λ h. record { is = h.is; innermost = h.innermost }) (λ h. record { is = h.is; innermost = h.innermost })
+tells_case_of graph method node target = tells_as (tells_belongs graph method is_case_or_default (is_kind switch_statement) IsCaseOrDefault (HasKind switch_statement) tells_case_or_default (tells_kind switch_statement) target node) (λ h. record { is = h.is; innermost = h.innermost }) (λ h. record { is = h.is; innermost = h.innermost })
 
 pub tells_default_of : (graph : PlainGraph) (method node target : ℕ) → Tells (is_default_of graph method node target) (IsDefaultOf graph method node target)
 tells_default_of graph method node target = tells_as (tells_belongs graph method is_default (is_kind switch_statement) IsDefault (HasKind switch_statement) tells_default (tells_kind switch_statement) target node) (λ h. record { is = h.is; innermost = h.innermost }) (λ h. record { is = h.is; innermost = h.innermost })
 
 pub tells_break_of : (graph : PlainGraph) (method node jump : ℕ) → Tells (is_break_of graph method node jump) (IsBreakOf graph method node jump)
-tells_break_of graph method node jump = tells_as (tells_belongs graph method (is_kind break_jump) is_left (HasKind break_jump) IsLeft (tells_kind break_jump) tells_left jump node) (λ h. record { is = h.is; innermost = h.innermost }) (λ h. record { is = h.is; innermost = h.innermost })
+tells_break_of graph method node jump = tells_as (tells_belongs graph method (is_kind break_jump) is_loop_or_switch (HasKind break_jump) IsLoopOrSwitch (tells_kind break_jump) tells_loop_or_switch jump node) (λ h. record { is = h.is; innermost = h.innermost }) (λ h. record { is = h.is; innermost = h.innermost })
 
 pub tells_continue_of : (graph : PlainGraph) (method node jump : ℕ) → Tells (is_continue_of graph method node jump) (IsContinueOf graph method node jump)
 tells_continue_of graph method node jump = tells_as (tells_belongs graph method (is_kind continue_jump) is_loop (HasKind continue_jump) IsLoop (tells_kind continue_jump) tells_loop jump node) (λ h. record { is = h.is; innermost = h.innermost }) (λ h. record { is = h.is; innermost = h.innermost })

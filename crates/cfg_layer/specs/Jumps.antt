@@ -5,7 +5,8 @@ use Rattle.cpg_schema.specs.Shape.{IsAbove}
 use Rattle.graph_parts.specs.Finds.{IsLeast}
 use Rattle.graph_parts.specs.Parts.{IsNodeWith}
 use Rattle.graph_parts.specs.Standing.{IsMethodAbove}
-use Rattle.cfg_layer.specs.Kinds.{HasKind, IsCase, IsDefault, IsGotoOf, IsLeft, IsLoop}
+use Rattle.cfg_layer.specs.Kinds.{HasKind, IsCaseOrDefault, IsDefault, IsGotoOf}
+use Rattle.cfg_layer.specs.Kinds.{IsLoop, IsLoopOrSwitch}
 use Rattle.cfg_layer.specs.Kinds.{IsTargetNamed, break_jump, continue_jump, switch_statement}
 use Rattle.cfg_layer.specs.Walked.{IsWalked, IsWalkedWith}
 
@@ -39,7 +40,7 @@ pub record BelongsToSwitch (graph : PlainGraph) (P : PlainNode → Type 0) (meth
 
 -- A `switch` leads to each `case` of its own and to its `default` (6.8.4.2 p5).
 abbrev pub LeadsToCase : PlainGraph → ℕ → ℕ → ℕ → Type 0
-LeadsToCase graph method node target = BelongsToSwitch graph IsCase method node target
+LeadsToCase graph method node target = BelongsToSwitch graph IsCaseOrDefault method node target
 
 abbrev pub IsDefaultOf : PlainGraph → ℕ → ℕ → ℕ → Type 0
 IsDefaultOf graph method node target = BelongsToSwitch graph IsDefault method node target
@@ -47,7 +48,7 @@ IsDefaultOf graph method node target = BelongsToSwitch graph IsDefault method no
 -- A `break` leaves the smallest loop or `switch` around it (6.8.6.3 p2).
 pub record IsBreakOf (graph : PlainGraph) (method node jump : ℕ) : Type 0 where
   pub is : IsWalkedWith graph (HasKind break_jump) method jump
-  pub innermost : IsInnermost graph IsLeft jump node
+  pub innermost : IsInnermost graph IsLoopOrSwitch jump node
 
 -- A `continue` ends the body of the smallest loop around it (6.8.6.2 p2).
 pub record IsContinueOf (graph : PlainGraph) (method node jump : ℕ) : Type 0 where

@@ -97,8 +97,8 @@ abbrev pub IsLoop : PlainNode → Type 0
 IsLoop node = IsLoopKind (kind_of node)
 
 -- A loop or a `switch`: what a `break` leaves (6.8.6.3 p1).
-abbrev pub IsLeft : PlainNode → Type 0
-IsLeft node = IsLoop node ⊎ HasKind switch_statement node
+abbrev pub IsLoopOrSwitch : PlainNode → Type 0
+IsLoopOrSwitch node = IsLoop node ⊎ HasKind switch_statement node
 
 -- A declaration, a function in a block, the name of a type: control passes it, and what it holds is
 -- not walked (ours).
@@ -113,8 +113,8 @@ IsTargetNamed name node = HasKind jump_target node × (node.name ≡ Some name)
 abbrev pub IsDefault : PlainNode → Type 0
 IsDefault node = IsTargetNamed (codes "default") node
 
-abbrev pub IsCase : PlainNode → Type 0
-IsCase node = IsTargetNamed (codes "case") node ⊎ IsDefault node
+abbrev pub IsCaseOrDefault : PlainNode → Type 0
+IsCaseOrDefault node = IsTargetNamed (codes "case") node ⊎ IsDefault node
 
 -- A `goto` of a label of this NAME (6.8.6.1).
 abbrev pub IsGotoOf : List ℕ → PlainNode → Type 0

@@ -84,8 +84,8 @@ is_kind kind node = kind_number (kind_of node) == kind_number kind
 abbrev pub is_loop : PlainNode → Bool
 is_loop node = is_kind while_loop node || (is_kind do_loop node || is_kind for_loop node)
 
-abbrev pub is_left : PlainNode → Bool
-is_left node = is_loop node || is_kind switch_statement node
+abbrev pub is_loop_or_switch : PlainNode → Bool
+is_loop_or_switch node = is_loop node || is_kind switch_statement node
 
 abbrev pub is_passed_over : PlainNode → Bool
 is_passed_over node = is_kind passed node || is_kind function node
@@ -96,8 +96,8 @@ is_target_named name node = is_kind jump_target node && is_name name node.name
 abbrev pub is_default : PlainNode → Bool
 is_default node = is_target_named (codes "default") node
 
-abbrev pub is_case : PlainNode → Bool
-is_case node = is_target_named (codes "case") node || is_default node
+abbrev pub is_case_or_default : PlainNode → Bool
+is_case_or_default node = is_target_named (codes "case") node || is_default node
 
 -- The labels of a METHOD and of its children.
 abbrev pub is_method_label : Label → Bool
@@ -234,7 +234,7 @@ belongs graph method test outer node around =
 
 abbrev pub leads_to_case : PlainGraph → ℕ → ℕ → ℕ → Bool
 leads_to_case graph method node target =
-    belongs graph method is_case (is_kind switch_statement) target node
+    belongs graph method is_case_or_default (is_kind switch_statement) target node
 
 abbrev pub is_default_of : PlainGraph → ℕ → ℕ → ℕ → Bool
 is_default_of graph method node target =
@@ -245,7 +245,8 @@ leads_to graph method node target =
     leads_to_label graph method node target || leads_to_case graph method node target
 
 abbrev pub is_break_of : PlainGraph → ℕ → ℕ → ℕ → Bool
-is_break_of graph method node jump = belongs graph method (is_kind break_jump) is_left jump node
+is_break_of graph method node jump =
+    belongs graph method (is_kind break_jump) is_loop_or_switch jump node
 
 abbrev pub is_continue_of : PlainGraph → ℕ → ℕ → ℕ → Bool
 is_continue_of graph method node jump =

@@ -1,13 +1,14 @@
 -- Ways that are added one after another.
-use Rattle.std.proofs.Common.{◌≡◌, ℕ, ◌+◌, ◌<◌, ◌≤◌, inl, inr, List, [], ◌∷◌, ◌++◌, length, get_or, refl, sym, ap, ◌∙◌, arith, subst, append_assoc, Option, Some, None}
+use Rattle.std.proofs.Common.{◌≡◌, ℕ, ◌+◌, ◌<◌, ◌≤◌, inl, inr, List, [], ◌∷◌, ◌++◌, length, get_or, refl, sym, ap, ◌∙◌, arith, subst, append_assoc, true, is_some, Option, Some, None}
 use Rattle.std.specs.List.{All, Contains}
-use Rattle.std.proofs.lemmas.Bool.{cases_lt}
+use Rattle.std.proofs.lemmas.Bool.{cases_lt, false≢true}
 use Rattle.std.proofs.lemmas.List.{append-nil, length-map, get_or-map, get_or_default}
 use Rattle.std.proofs.lemmas.List.Elements.{All-nil, All-append, All-weaker, All-cons, All-contains, Contains-append_left, Contains-get_or}
 use Rattle.matched_paths.specs.declared.flow_graph.Crossing.{Crossing}
 use Rattle.matched_paths.specs.declared.flow_graph.FlowGraph.{FlowGraph}
 use Rattle.matched_paths.specs.declared.flow_graph.Pair.{Pair}
 use Rattle.matched_paths.specs.Ends.{IsAmong}
+use Rattle.matched_paths.specs.Edges.{IsOut}
 use Rattle.flow_index.specs.Positions.{IsLastPosition, Keys}
 use Rattle.flow_index.specs.Crossings.{AreEntryPositions, AreOutPositions, slot_of}
 use Rattle.flow_index.specs.Ways.{AddsAll, Bridges, BridgesOver, Enters}
@@ -145,6 +146,36 @@ module _ (flow : FlowGraph) (keys : Keys) (pair : Pair) where
         walk_end keys.keys _ next _ none is.walks position key.0 (key.1 ∙ ap (λ (c : Crossing). c.from) close) way
         (subst (λ (c : Crossing). Enters flow c.to c.call pair.goal way) (sym close) (record { ends = refl; opened = over.opened }));
   }
+
+-- a vertex has a last close where it is an out
+module _ (flow : FlowGraph) (keys : Keys) (vertex : ℕ) where
+  close_of : AreOutPositions flow keys → (position : ℕ) → position < length flow.closes → (position < length keys.keys) × (get_or keys.keys position 0 ≡ (get_or flow.closes position no_crossing).from)
+  close_of are position within = (
+    rw (are.outs, length-map) within,
+    ap (λ (xs : List ℕ). get_or xs position 0) are.outs ∙ get_or-map (λ (c : Crossing). c.from) flow.closes position no_crossing 0 within,
+  )
+
+  pub out_found : (found : Option ℕ) → AreOutPositions flow keys → IsLastPosition keys.keys vertex (length keys.keys) found → (is_some found ≡ true → IsOut flow vertex) × (IsOut flow vertex → is_some found ≡ true)
+  out_found None are none = (
+    λ some. absurd (false≢true some),
+    λ out.
+        let at = out.1.1 in
+        let close = close_of are at.0 at.1 in
+        let is : get_or flow.closes at.0 no_crossing ≡ record { call = out.1.0; from = vertex; to = out.0 } = get_or_default flow.closes at.0 no_crossing _ at.1 ∙ at.2 in
+        absurd (none at.0 close.0 (close.1 ∙ ap (λ (c : Crossing). c.from) is)),
+  )
+  out_found (Some position) are last = (
+    λ some.
+        let within : position < length flow.closes = omega (arith, last.before, ap length are.outs, length-map flow.closes (λ (c : Crossing). c.from)) in
+        let close = get_or flow.closes position no_crossing in
+        let from : close.from ≡ vertex = sym (close_of are position within).1 ∙ last.stands in
+        subst (λ (v : ℕ). IsOut flow v) from (close.to, (close.call, Contains-get_or flow.closes position no_crossing within)),
+    λ out. refl,
+  )
+
+-- what is no vertex is no out
+pub out_below : (flow : FlowGraph) (vertex : ℕ) → flow.vertices ≤ vertex → ¬ IsOut flow vertex
+out_below flow vertex beyond out = let below = (All-contains (IsAmong flow.vertices) flow.closes _ flow.within.closes out.1.1).from in absurd (omega arith)
 
 -- Ways over the first pairs were added.
 pub record Bridging (flow : FlowGraph) (pairs : List Pair) (ways : List (ℕ × ℕ)) (index : ℕ) : Type 0 where

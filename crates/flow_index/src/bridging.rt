@@ -2,6 +2,7 @@
 
 ghost use Rattle.std.specs.Prelude.{ℕ, ◌≡◌, ◌<◌, ◌↔◌, map, IfOk, IsTrue, OnOk};
 ghost use Rattle.std.specs.List.{All, Contains};
+ghost use Rattle.matched_paths.specs.Edges.{IsOut};
 ghost use Rattle.flow_index.specs.Ways.{AddsAll, AreAmong, AreSteps, Bridges, BridgesOver, Enters};
 ghost use Rattle.flow_index.specs.Crossings.{AreEntryPositions, IsIndexOf, slot_of};
 
@@ -103,6 +104,17 @@ impl CrossingIndex {
             by_entry,
             slots,
         })
+    }
+
+    /// Whether a close leaves the vertex, which takes constant time.
+    pub fn is_out(&self, flow: &FlowGraph, vertex: u32) -> bool
+        requires { IsIndexOf flow.now self.now }
+        ensures { IsTrue result ↔ IsOut flow.now vertex }
+    {
+        if vertex >= flow.vertices {
+            return false;
+        }
+        self.by_out.last(vertex).is_some()
     }
 
     /// Adds the bridges over a pair, in time linear in the closes from its out and in the bridges,

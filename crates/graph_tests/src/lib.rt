@@ -18,4 +18,6 @@ mod stored_graphs;
 #[cfg(test)]
 mod syntax_layers;
 #[cfg(test)]
+mod type_runs;
+#[cfg(test)]
 mod unit_runs;

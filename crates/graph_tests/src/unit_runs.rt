@@ -1,5 +1,9 @@
 //! What the unit layer adds to the syntax layers of sources, printed.
 
+ghost use Rattle.std.specs.Prelude.{IfOk};
+ghost use Rattle.cpg_schema.specs.Shape.{IsShaped};
+ghost use Rattle.graph_store.specs.Stored.{plain};
+
 use crate::printed_lines::print;
 use crate::syntax_layers::{source, two_sources};
 use ast_layer::AstPass;
@@ -83,7 +87,7 @@ edge 18 AST 3\n\
 edge 18 SOURCE_FILE 17\n";
 
 /// The pass over an empty file.
-fn empty_source(alloc: Global) -> Result<AstPass, Fail> {
+pub(crate) fn empty_source(alloc: Global) -> Result<AstPass, Fail> {
     let nothing = Unit {
         items: List::new(alloc),
     };
@@ -92,7 +96,9 @@ fn empty_source(alloc: Global) -> Result<AstPass, Fail> {
 }
 
 /// The graph of the sources of a pass, with the unit layer.
-fn unit_graph(rt: &HostRuntime, sources: &AstPass) -> Result<Graph, Fail> {
+pub(crate) fn unit_graph(rt: &HostRuntime, sources: &AstPass) -> Result<Graph, Fail>
+    ensures { IfOk result (λ graph. IsShaped (plain graph)) }
+{
     let caps = Caps {
         nodes: 100,
         edges: 100,
@@ -100,6 +106,7 @@ fn unit_graph(rt: &HostRuntime, sources: &AstPass) -> Result<Graph, Fail> {
     let empty = Graph::new(rt.alloc(), caps, RandomState::new(rt)?)?;
     law_stored(&empty);
     let syntax = run_pass_one(rt.alloc(), sources, empty)?;
+    law_stored(&syntax);
     let graph = run_pass_one(rt.alloc(), &UnitPass, syntax)?;
     Ok(graph)
 }

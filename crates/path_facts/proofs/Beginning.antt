@@ -3,17 +3,14 @@ use Rattle.std.proofs.Common.{◌≡◌, ℕ, ◌+◌, ◌<◌, ◌≤◌, inl, 
 use Rattle.std.specs.List.{All, Contains}
 use Rattle.std.proofs.lemmas.Bool.{cases_lt}
 use Rattle.std.proofs.lemmas.List.{get_or_default}
-use Rattle.std.proofs.lemmas.List.Elements.{All-append, All-contains, All-nil, All-weaker, Contains-get_or}
+use Rattle.std.proofs.lemmas.List.Elements.{All-contains, All-nil, All-weaker, Contains-get_or}
 use Rattle.matched_paths.specs.declared.flow_graph.FlowGraph.{FlowGraph}
-use Rattle.matched_paths.specs.declared.flow_graph.Crossing.{Crossing}
 use Rattle.matched_paths.specs.Ends.{IsAmong}
 use Rattle.matched_paths.specs.Edges.{IsGoal, IsOut}
 use Rattle.matched_paths.specs.Folded.{HoldsOutsOf}
 use Rattle.matched_paths.specs.Matched as m
 use Rattle.matched_paths.specs.Matched.{IsTruePair, Matched}
 use Rattle.matched_paths.specs.declared.flow_graph.Pair.{Pair}
-use Rattle.flow_index.specs.Vertices.{Meets as MeetsVertex, Vertices}
-use Rattle.flow_index.proofs.Growing.{grows_keeps as vertex_keeps}
 use Rattle.path_facts.specs.declared.pair_set.PairSet.{PairSet}
 use Rattle.path_facts.specs.PairSets.{Grows, IsKept, Meets}
 use Rattle.path_facts.specs.Facts.{Begins, HasGoal, Tabulates}
@@ -86,51 +83,10 @@ saturate_more flow goals facts after bridges wider next is tabulates grows = rec
   begun = All-weaker (λ goal. Contains facts.pairs.items (goal, goal)) (λ goal. Contains after.pairs.items (goal, goal)) (λ goal has. grows_keeps _ facts after (goal, goal) grows has) goals is.begun;
 }
 
-abbrev pub no_crossing : Crossing
-no_crossing = record { call = 0; from = 0; to = 0 }
-
--- The outs of the first closes are met.
-pub record MeetsOuts (flow : FlowGraph) (set : Vertices) (index : ℕ) : Type 0 where
-  pub count_is : set.count ≡ flow.vertices
-  pub sound : All (IsOut flow) set.met
-  pub all : (k : ℕ) (d : Crossing) → k < index → k < length flow.closes → Contains set.met (get_or flow.closes k d).from
-
-pub outs_none : (flow : FlowGraph) (set : Vertices) → set.count ≡ flow.vertices → set.met ≡ [] → MeetsOuts flow set 0
-outs_none flow set counts empty = record {
-  count_is = counts;
-  sound = rw empty (All-nil (IsOut flow));
-  all = λ k d less within. absurd (omega arith);
-}
-
-pub outs_more : (flow : FlowGraph) (set after : Vertices) (index : ℕ) (d : Crossing) → index < length flow.closes → MeetsOuts flow set index → MeetsVertex set after (get_or flow.closes index d).from → MeetsOuts flow after (index + 1)
-outs_more flow set after index d within is meets =
-    let close = get_or flow.closes index d in
-    record {
-      count_is = meets.grows.count ∙ is.count_is;
-      sound = subst (λ (xs : List ℕ). All (IsOut flow) xs) (sym meets.grows.kept)
-          (All-append (IsOut flow) set.met meets.grows.more is.sound
-          (All-weaker (λ (v : ℕ). v ≡ close.from) (IsOut flow) (λ v same. subst (λ (x : ℕ). IsOut flow x) (sym same) (close.to, (close.call, Contains-get_or flow.closes index d within))) meets.grows.more meets.grows.new));
-      all = λ k e less inside. elim (cases_lt k index) [
-        | inl before ↦ vertex_keeps _ set after _ meets.grows (is.all k e before inside)
-        | inr not_before ↦
-            let here : index ≡ k = omega arith in
-            subst (λ (c : Crossing). Contains after.met c.from) (ap (λ (i : ℕ). get_or flow.closes i d) here ∙ get_or_default flow.closes k d e inside) meets.met
-      ];
-    }
-
-pub outs_end : (flow : FlowGraph) (set : Vertices) (index : ℕ) → length flow.closes ≤ index → MeetsOuts flow set index → (vertex : ℕ) → (Contains set.met vertex → IsOut flow vertex) × (IsOut flow vertex → Contains set.met vertex)
-outs_end flow set index all is vertex = (
-  λ has. All-contains (IsOut flow) set.met vertex is.sound has,
-  λ out.
-      let at = out.1.1 in
-      let close : Crossing = record { call = out.1.0; from = vertex; to = out.0 } in
-      subst (λ (c : Crossing). Contains set.met c.from) at.2 (is.all at.0 close (omega (arith, at.1)) at.1),
-)
-
 -- what a list of the pairs of outs and facts is, when all facts had their turn
-module _ (flow : FlowGraph) (goals : List ℕ) (facts bridges : PairSet) (next : ℕ) (is : Saturating flow goals facts bridges next) (outs : List ℕ) (are_outs : (vertex : ℕ) → (Contains outs vertex → IsOut flow vertex) × (IsOut flow vertex → Contains outs vertex))
+module _ (flow : FlowGraph) (goals : List ℕ) (facts bridges : PairSet) (next : ℕ) (is : Saturating flow goals facts bridges next)
     (listed : List (ℕ × ℕ)) (same : listed ≡ facts.pairs.items) (pairs : List Pair)
-    (each : (pair : Pair) → (Contains pairs pair → Contains outs pair.out × Contains listed (pair.out, pair.goal)) × (Contains outs pair.out × Contains listed (pair.out, pair.goal) → Contains pairs pair)) where
+    (each : (pair : Pair) → (Contains pairs pair → IsOut flow pair.out × Contains listed (pair.out, pair.goal)) × (IsOut flow pair.out × Contains listed (pair.out, pair.goal) → Contains pairs pair)) where
   pub pairs_sound : All (IsGoal flow) goals → All (λ pair. Contains goals pair.goal × IsTruePair flow pair) pairs
   pairs_sound are k d inside =
       let pair = get_or pairs k d in
@@ -140,7 +96,7 @@ module _ (flow : FlowGraph) (goals : List ℕ) (facts bridges : PairSet) (next :
         goal,
         record {
           goal = All-contains (IsGoal flow) goals pair.goal are goal;
-          out = (are_outs pair.out).0 both.0;
+          out = both.0;
           matched = All-contains (λ (f : ℕ × ℕ). Matched flow f.1 f.0) facts.pairs.items (pair.out, pair.goal) is.tabulates.matched fact;
         },
       )
@@ -149,4 +105,4 @@ module _ (flow : FlowGraph) (goals : List ℕ) (facts bridges : PairSet) (next :
   pairs_hold all goal out has led_out =
       let begun : Contains facts.pairs.items (goal, goal) = All-contains (λ (g : ℕ). Contains facts.pairs.items (g, g)) goals goal is.begun has in
       let fact = led flow facts bridges next all is.tabulates pairs (λ pair stands. subst (λ (xs : List (ℕ × ℕ)). Contains xs (pair.out, pair.goal)) same ((each pair).0 stands).1) goal begun led_out.leads in
-      (each (record { goal = goal; out = out })).1 ((are_outs out).1 led_out.is_out, subst (λ (xs : List (ℕ × ℕ)). Contains xs (out, goal)) (sym same) fact)
+      (each (record { goal = goal; out = out })).1 (led_out.is_out, subst (λ (xs : List (ℕ × ℕ)). Contains xs (out, goal)) (sym same) fact)

@@ -7,7 +7,7 @@ use Rattle.std.proofs.lemmas.List.Elements.{All-append, All-contains, All-get_or
 use Rattle.matched_paths.specs.declared.flow_graph.FlowGraph.{FlowGraph}
 use Rattle.matched_paths.specs.declared.flow_graph.Pair.{Pair}
 use Rattle.matched_paths.specs.Ends.{IsAmong}
-use Rattle.matched_paths.specs.Edges.{HasFlat, IsOut}
+use Rattle.matched_paths.specs.Edges.{HasFlat}
 use Rattle.matched_paths.specs.Path.{none, step}
 use Rattle.matched_paths.specs.Folded as f
 use Rattle.matched_paths.specs.Folded.{FoldedStep, Leads}
@@ -235,11 +235,6 @@ module _ (flow : FlowGraph) where
     followed_grows =
         let same : (f : ℕ × ℕ) → f.1 ≡ fact.1 → HasGoal facts f.1 = λ f is_goal. (fact.0, subst (λ (g : ℕ). Contains facts.pairs.items (fact.0, g)) (sym is_goal) stands) in
         grows_then _ facts middle after (grows_map _ _ facts middle (λ f so. same f so.1) first) (grows_map _ _ middle after (λ f so. same f so.1) second)
-
-    -- where no close leaves the vertex nothing more follows
-    pub followed_end : ¬ IsOut flow fact.0 → Tabulates flow after bridges (position + 1) (position + 1)
-    followed_end no_out = tabulates_spanned after bridges (position + 1) position (omega arith)
-        (λ way over. absurd (no_out (subst (λ (f : ℕ × ℕ). IsOut flow f.0) followed_at (way.1, (over.call, over.closed))))) followed_is
 
   -- growth by goals that stand, twice
   pub goals_then : (facts middle after : PairSet) → Grows (λ f. HasGoal facts f.1) facts middle → Grows (λ f. HasGoal middle f.1) middle after → Grows (λ f. HasGoal facts f.1) facts after

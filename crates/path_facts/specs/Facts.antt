@@ -1,8 +1,8 @@
 -- Facts (Reps, Horwitz and Sagiv 1995): a vertex and a goal, from which a matched path leads to it.
-use Rattle.std.specs.Prelude.{ℕ, ◌≡◌, ◌≤◌, ◌<◌, ◌↔◌, List, map, length}
+use Rattle.std.specs.Prelude.{ℕ, ◌≡◌, ◌≤◌, ◌<◌, List, map, length}
 use Rattle.std.specs.List.{All, Contains}
 use Rattle.matched_paths.specs.declared.flow_graph.FlowGraph.{FlowGraph}
-use Rattle.matched_paths.specs.Edges.{HasFlat, IsOut}
+use Rattle.matched_paths.specs.Edges.{HasFlat}
 use Rattle.matched_paths.specs.Matched.{Matched}
 use Rattle.flow_index.specs.Crossings.{IsIndexOf}
 use Rattle.flow_index.specs.Ways.{AreAmong, BridgesOver}
@@ -28,11 +28,10 @@ pub record Spreads (from to : ℕ) (before after : PairSet) : Type 0 where
   pub all : (goal : ℕ) → Contains before.pairs.items (from, goal) →
       Contains after.pairs.items (to, goal)
 
--- The flow graph's flat edges, outs and crossings.
+-- The flow graph's flat edges and crossings.
 pub record IsGround (flow : FlowGraph) (ground : Ground) : Type 0 where
   pub count : ground.flat.count ≡ flow.vertices
   pub keys : ground.flat.keys ≡ map (λ edge. edge.0) flow.flat
-  pub outs : (vertex : ℕ) → Contains ground.outs.met vertex ↔ IsOut flow vertex
   pub crossings : IsIndexOf flow ground.crossings
 
 -- Facts and bridges are so of the flow graph. The first facts were followed along all flat edges

@@ -1,32 +1,17 @@
 //! What stays the same while facts are found.
 
-ghost use Rattle.std.specs.Prelude.{ℕ, ◌≡◌, ◌↔◌, map, IfOk};
-ghost use Rattle.std.specs.List.{Contains};
-ghost use Rattle.matched_paths.specs.Edges.{IsOut};
+ghost use Rattle.std.specs.Prelude.{◌≡◌, map, IfOk};
 ghost use Rattle.path_facts.specs.Facts.{IsGround};
 
-use flow_index::{Chains, CrossingIndex, VertexSet};
+use flow_index::{Chains, CrossingIndex};
 use matched_paths::FlowGraph;
 use std::alloc::{AllocError, Global};
 
-/// The flat edges of a flow graph by where they begin, its outs, and its crossings.
+/// The flat edges of a flow graph by where they begin, and its crossings.
 #[derive(Drop)]
 pub(crate) struct Ground {
     pub(crate) flat: Chains,
-    pub(crate) outs: VertexSet,
     pub(crate) crossings: CrossingIndex,
-}
-
-/// The vertices from which closes leave.
-fn outs(alloc: Global, flow: &FlowGraph) -> Result<VertexSet, AllocError>
-    ensures { IfOk result (λ set. (vertex : ℕ) →
-        Contains set.met vertex ↔ IsOut flow.now vertex) }
-{
-    let mut set = VertexSet::new(alloc, flow.vertices)?;
-    for close in flow.closes.items() {
-        set.meet(close.from)?;
-    }
-    Ok(set)
 }
 
 /// The flat edges by where they begin.
@@ -44,12 +29,7 @@ impl Ground {
         ensures { IfOk result (IsGround flow.now) }
     {
         let flat = flat(alloc, flow)?;
-        let outs = outs(alloc, flow)?;
         let crossings = CrossingIndex::of(alloc, flow)?;
-        Ok(Ground {
-            flat,
-            outs,
-            crossings,
-        })
+        Ok(Ground { flat, crossings })
     }
 }

@@ -21,14 +21,14 @@ pub(crate) struct PairSet {
 }
 
 impl PairSet {
-    /// No pairs yet. Their first numbers are to be below `count`.
-    pub(crate) fn new(alloc: Global, count: usize) -> Result<PairSet, AllocError>
+    /// No pairs yet, and room for so many. Their first numbers are to be below `count`.
+    pub(crate) fn new(alloc: Global, count: usize, room: usize) -> Result<PairSet, AllocError>
         ensures kept { IfOk result IsKept }
         ensures count { IfOk result (λ set. set.by_first.count ≡ count) }
         ensures empty { IfOk result (λ set. set.pairs.items ≡ []) }
     {
         Ok(PairSet {
-            pairs: Vec::new(alloc),
+            pairs: Vec::with_capacity(alloc, room)?,
             by_first: Chains::new(alloc, count)?,
             passed: HashSet::new(alloc),
         })

@@ -2,24 +2,37 @@
 
 ghost use Rattle.std.specs.Prelude.{ℕ, ◌≡◌, ◌≢◌, ◌↔◌, ◌<◌, IfOk, OnOk};
 ghost use Rattle.std.specs.List.{All, AllPairs, Contains};
-ghost use Rattle.matched_paths.specs.Edges.{IsGoal};
+ghost use Rattle.matched_paths.specs.Edges.{IsGoal, IsOut};
 ghost use Rattle.matched_paths.specs.Folded.{HoldsOutsOf};
 ghost use Rattle.matched_paths.specs.Matched.{IsTruePair};
+ghost use Rattle.flow_index.specs.Crossings.{IsIndexOf};
 ghost use Rattle.path_facts.specs.Facts.{Begins};
 
 use crate::ground::Ground;
 use crate::pair_set::PairSet;
 use crate::taking::take_up;
-use flow_index::VertexSet;
+use flow_index::CrossingIndex;
 use matched_paths::{FlowGraph, Pair};
 use std::alloc::{AllocError, Global};
 
+/// For how many facts a vertex there is room from the start.
+const ROOM_OF_VERTEX: usize = 16;
+
+/// For how many facts there is room from the start at most: 8 MB.
+const MOST_ROOM: usize = 1 << 20;
+
 /// The first facts: each goal leads to itself.
+///
+/// Room for more is taken at once, of which memory is used as it is filled: a list that grows is
+/// copied, and an allocator that keeps as much as the largest block that it got back keeps the
+/// memory of this table for the next.
 fn begun(alloc: Global, count: u32, goals: &[u32]) -> Result<PairSet, AllocError>
     requires { All (λ goal. goal < count) goals.now }
     ensures { IfOk result (Begins count goals.now) }
 {
-    let mut facts = PairSet::new(alloc, count as usize)?;
+    let vertices = count as usize;
+    let room = vertices.saturating_mul(ROOM_OF_VERTEX).min(MOST_ROOM);
+    let mut facts = PairSet::new(alloc, vertices, room)?;
     for goal in goals {
         facts.meet(*goal, *goal)?;
     }
@@ -27,15 +40,21 @@ fn begun(alloc: Global, count: u32, goals: &[u32]) -> Result<PairSet, AllocError
 }
 
 /// The pairs of goals and outs among the facts.
-fn summaries(alloc: Global, outs: &VertexSet, facts: &[(u32, u32)]) -> Result<Vec<Pair>, AllocError>
-    requires { AllPairs (λ a b. a ≢ b) facts.now }
+fn summaries(
+    alloc: Global,
+    flow: &FlowGraph,
+    crossings: &CrossingIndex,
+    facts: &[(u32, u32)],
+) -> Result<Vec<Pair>, AllocError>
+    requires index { IsIndexOf flow.now crossings.now }
+    requires once { AllPairs (λ a b. a ≢ b) facts.now }
     ensures each { IfOk result (λ pairs. (pair : Pair) → Contains pairs.items pair ↔
-        (Contains outs.now.met pair.out × Contains facts.now (pair.out, pair.goal))) }
+        (IsOut flow.now pair.out × Contains facts.now (pair.out, pair.goal))) }
     ensures once { IfOk result (λ pairs. AllPairs (λ a b. a ≢ b) pairs.items) }
 {
     let mut pairs = Vec::new(alloc);
     for fact in facts {
-        if outs.has(fact.0) {
+        if crossings.is_out(flow, fact.0) {
             pairs.push(Pair {
                 goal: fact.1,
                 out: fact.0,
@@ -59,13 +78,14 @@ pub fn true_pairs(alloc: Global, flow: &FlowGraph, goals: &[u32]) -> Result<Vec<
 {
     let ground = Ground::of(alloc, flow)?;
     let mut facts = begun(alloc, flow.vertices, goals)?;
-    let mut bridges = PairSet::new(alloc, flow.vertices as usize)?;
+    let mut bridges = PairSet::new(alloc, flow.vertices as usize, 0)?;
+    let mut ways = Vec::new(alloc);
     for next in 0..usize::MAX {
         if next == facts.pairs.len() {
-            let pairs = summaries(alloc, &ground.outs, facts.pairs.as_slice())?;
+            let pairs = summaries(alloc, flow, &ground.crossings, facts.pairs.as_slice())?;
             return Ok(pairs);
         }
-        take_up(alloc, flow, &ground, next, &mut facts, &mut bridges)?;
+        take_up(flow, &ground, next, &mut facts, &mut bridges, &mut ways)?;
     }
     Err(AllocError) // No list has so many facts.
 }

@@ -11,7 +11,7 @@ use crate::ground::Ground;
 use crate::pair_set::PairSet;
 use flow_index::{Chains, CrossingIndex};
 use matched_paths::{FlowGraph, Pair};
-use std::alloc::{AllocError, Global};
+use std::alloc::AllocError;
 
 /// Takes the goal from the vertex along all ways that leave it.
 fn follow(
@@ -55,14 +55,16 @@ fn spread(from: u32, to: u32, facts: &mut PairSet) -> Result<(), AllocError>
 }
 
 /// Adds the bridges over the pair of a fact, and takes along them the goals that stand where they
-/// begin.
+/// begin. There are none where its vertex is no out.
+///
+/// A list that was used before is filled anew with the bridges.
 fn cross(
-    alloc: Global,
     flow: &FlowGraph,
     crossings: &CrossingIndex,
     position: usize,
     facts: &mut PairSet,
     bridges: &mut PairSet,
+    ways: &mut Vec<(u32, u32)>,
 ) -> Result<(), AllocError>
     requires index { IsIndexOf flow.now crossings.now }
     requires position { position < length facts.old.pairs.items }
@@ -73,9 +75,9 @@ fn cross(
         (Grows (λ fact. HasGoal facts.old fact.1) facts.old facts.new) }
 {
     let (out, goal) = facts.pairs[position];
-    let mut ways = Vec::new(alloc);
-    crossings.add_over(flow, Pair { goal, out }, &mut ways)?;
-    for way in &ways {
+    ways.clear();
+    crossings.add_over(flow, Pair { goal, out }, ways)?;
+    for way in ways.as_slice() {
         bridges.meet(way.0, way.1)?;
         spread(way.0, way.1, facts)?;
     }
@@ -84,12 +86,12 @@ fn cross(
 
 /// Adds what follows from the fact at the position.
 pub(crate) fn take_up(
-    alloc: Global,
     flow: &FlowGraph,
     ground: &Ground,
     position: usize,
     facts: &mut PairSet,
     bridges: &mut PairSet,
+    ways: &mut Vec<(u32, u32)>,
 ) -> Result<(), AllocError>
     requires ground { IsGround flow.now ground.now }
     requires position { position < length facts.old.pairs.items }
@@ -108,9 +110,6 @@ pub(crate) fn take_up(
         goal,
         facts,
     )?;
-    if !ground.outs.has(vertex) {
-        return Ok(());
-    }
-    cross(alloc, flow, &ground.crossings, position, facts, bridges)?;
+    cross(flow, &ground.crossings, position, facts, bridges, ways)?;
     Ok(())
 }

@@ -1,6 +1,5 @@
 use Rattle.std.proofs.Common.{ℕ, List, ap, ◌∙◌, sym, map, arith}
-use Rattle.matched_paths.specs.Edges.{IsOut}
-use Rattle.path_facts.proofs.Tabulating.{read_below, followed_inside, followed_is, followed_grows, followed_end, goals_then}
+use Rattle.path_facts.proofs.Tabulating.{read_below, followed_inside, followed_is, followed_grows, goals_then}
 use Rattle.path_facts.proofs.taking.take_up.Goals as goal
 
 pub follow-requires-clause-ways : goal.follow-requires-clause-ways
@@ -40,14 +39,6 @@ cross-requires-clause-position c = followed_inside c.args.flow.now c.args.facts.
 
 pub cross-requires-clause-tabulates : goal.cross-requires-clause-tabulates
 cross-requires-clause-tabulates c = followed_is c.args.flow.now c.args.facts.now c.follow.new.facts c.follow-2.new.facts c.args.bridges.now c.args.position c.index.result.now c.items.result.now c.as_slice.result.now c.requires.tabulates c.requires.position c.index.ensures c.items.ensures c.as_slice.ensures.value c.in_ok-follow.ensures.grows c.in_ok-follow.ensures.all c.in_ok-follow-2.ensures.grows c.in_ok-follow-2.ensures.all
-
-pub returns-then-not-has-clause-tabulates : goal.returns-then-not-has-clause-tabulates
-returns-then-not-has-clause-tabulates c =
-    let no_out : ¬ IsOut c.args.flow.now c.index.result.now.0 = λ out. let on = c.has.ensures.1 ((c.requires.ground.outs c.index.result.now.0).1 out) in let off = c.if-not-has.true in cc in
-    followed_end c.args.flow.now c.args.facts.now c.follow.new.facts c.follow-2.new.facts c.args.bridges.now c.args.position c.index.result.now c.items.result.now c.as_slice.result.now c.requires.tabulates c.requires.position c.index.ensures c.items.ensures c.as_slice.ensures.value c.in_ok-follow.ensures.grows c.in_ok-follow.ensures.all c.in_ok-follow-2.ensures.grows c.in_ok-follow-2.ensures.all no_out
-
-pub returns-then-not-has-clause-grows : goal.returns-then-not-has-clause-grows
-returns-then-not-has-clause-grows c = followed_grows c.args.flow.now c.args.facts.now c.follow.new.facts c.follow-2.new.facts c.args.bridges.now c.args.position c.index.result.now c.items.result.now c.as_slice.result.now c.requires.tabulates c.requires.position c.index.ensures c.items.ensures c.as_slice.ensures.value c.in_ok-follow.ensures.grows c.in_ok-follow.ensures.all c.in_ok-follow-2.ensures.grows c.in_ok-follow-2.ensures.all
 
 pub returns-clause-grows : goal.returns-clause-grows
 returns-clause-grows c =

@@ -1,0 +1,2 @@
+pub mod InitialisersAreRead
+pub mod DeclarationsAreRead

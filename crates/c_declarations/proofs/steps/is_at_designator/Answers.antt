@@ -1,0 +1,10 @@
+use Rattle.std.proofs.Common.{refl, sym, ◌∙◌}
+use Rattle.c_specifiers.specs.DeclarationSets.{begins_designator}
+use Rattle.c_syntax.proofs.Ahead.{kind_ahead, nothing_ahead}
+use Rattle.c_declarations.proofs.steps.is_at_designator.Goals as goal
+
+pub returns-in-Some : goal.returns-in-Some
+returns-in-Some c = c.is_designator.ensures ∙ kind_ahead begins_designator refl c.args.source.now.cursor c.args.source.now.scopes c.in-Some.kind (sym c.in-Some.ensures)
+
+pub returns-in-None : goal.returns-in-None
+returns-in-None c = nothing_ahead begins_designator refl c.args.source.now.cursor c.args.source.now.scopes (sym c.in-None.ensures)

@@ -1,0 +1,5 @@
+pub mod DeclarationForms
+pub mod InitialiserRules
+pub mod InitialiserReaders
+pub mod DeclarationRules
+pub mod DeclarationReaders

@@ -1,0 +1,3 @@
+pub mod DeclaratorForms
+pub mod DeclaratorRules
+pub mod DeclaratorReaders

@@ -1,0 +1,4 @@
+pub mod RealTokens
+pub mod SomeExpression
+pub mod SomeParts
+pub mod PartsAreRead

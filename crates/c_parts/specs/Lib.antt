@@ -1,0 +1,5 @@
+pub mod PartNames
+pub mod PartRules
+pub mod PartReaders
+pub mod Ties
+pub mod ExactParts

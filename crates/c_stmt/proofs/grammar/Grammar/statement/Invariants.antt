@@ -1,0 +1,10 @@
+use Rattle.std.proofs.Common.{◌≡◌, ◌-◌}
+use Rattle.reading.specs.Readers.{turn_on, repeat}
+use Rattle.c_syntax.specs.Scoping.{input_from}
+use Rattle.c_stmt.specs.StatementReaders.{statement, turn}
+use Rattle.c_stmt.proofs.grammar.Grammar.statement.Given as goal
+
+abbrev pub invariant-loop-turn : goal.invariant-loop-turn
+invariant-loop-turn g l =
+    statement (g.B.Below.readers l.self.below) l.self.room (g.I.Inside.readers l.self.inside l.self.room) (input_from l.fn.source)
+    ≡ turn_on (turn (g.B.Below.readers l.self.below) l.self.room (g.I.Inside.readers l.self.inside l.self.room)) (l._turn-end - l._turn) l.labels (input_from l.source)
