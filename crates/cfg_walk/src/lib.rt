@@ -2,6 +2,7 @@
 #![tactic(auto)]
 
 mod kind;
+mod met;
 #[cfg(test)]
 mod small_functions;
 mod walk;

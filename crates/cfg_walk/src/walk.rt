@@ -6,6 +6,7 @@ ghost use Rattle.graph_store.specs.Stored.{plain};
 ghost use Rattle.edge_index.specs.Indexed.{IsIndexOf};
 
 use crate::kind::{Kind, kind_of};
+use crate::met::{Met, met_in};
 use cfg_flow::{Jump, Plan, Row, flow};
 use cfg_rules::Rule;
 use cpg_schema::{EdgeKind, Key, Label};
@@ -15,22 +16,6 @@ use graph_store::{Edge, Graph};
 use name_table::Names;
 use std::alloc::{AllocError, Global};
 
-/// The nearest constructs around a node, by their numbers.
-#[derive(Clone, Copy, Debug, PartialEq, Eq)]
-struct Around {
-    nearest_loop: Option<u32>,
-    switch: Option<u32>,
-    left: Option<u32>,
-}
-
-/// A node to which the walk has come.
-#[derive(Clone, Copy, Debug, PartialEq, Eq)]
-struct Met {
-    node: u32,
-    walked: bool,
-    around: Around,
-}
-
 /// How far the walk over a function has come.
 #[derive(Drop)]
 struct Walk<'a> {
@@ -38,6 +23,7 @@ struct Walk<'a> {
     graph: &'a Graph,
     index: &'a Index,
     met: Vec<Met>,
+    first: u32,
     rows: Vec<Row>,
     parts: Vec<Option<u32>>,
     targets: Vec<Jump>,
@@ -85,25 +71,6 @@ fn rule_of(kind: Kind) -> Rule {
     }
 }
 
-/// What is around the children of a node of this kind.
-fn around_below(kind: Kind, number: u32, around: Around) -> Around {
-    if kind.is_loop() {
-        Around {
-            nearest_loop: Some(number),
-            switch: around.switch,
-            left: Some(number),
-        }
-    } else if kind == Kind::Switch {
-        Around {
-            nearest_loop: around.nearest_loop,
-            switch: Some(number),
-            left: Some(number),
-        }
-    } else {
-        around
-    }
-}
-
 /// Adds a jump of a construct, where there is one.
 fn add_jump(jumps: &mut Vec<Jump>, construct: Option<u32>, mark: u32) -> Result<(), AllocError> {
     if let Some(construct) = construct {
@@ -113,28 +80,6 @@ fn add_jump(jumps: &mut Vec<Jump>, construct: Option<u32>, mark: u32) -> Result<
 }
 
 impl<'a> Walk<'a> {
-    fn number(&self) -> Result<u32, AllocError> {
-        u32::try_from(self.met.len()).map_err(|_| AllocError)
-    }
-
-    /// Comes to the children of a node, which are walked where it says so, but for one.
-    fn meet(
-        &mut self,
-        children: &[Edge],
-        walked: bool,
-        but: Option<u32>,
-        around: Around,
-    ) -> Result<(), AllocError> {
-        for edge in children {
-            self.met.push(Met {
-                node: edge.to,
-                walked: walked && but != Some(edge.to),
-                around,
-            })?;
-        }
-        Ok(())
-    }
-
     /// Adds a row with the parts from this position on.
     fn add_row(&mut self, rule: Rule, from: usize) -> Result<(), AllocError> {
         let from = u32::try_from(from).map_err(|_| AllocError)?;
@@ -148,7 +93,7 @@ impl<'a> Walk<'a> {
         requires index { IsIndexOf self.old.graph.now self.old.index.now }
         requires inside { node < length self.old.graph.now.nodes }
     {
-        let first = self.number()?;
+        let first = self.first;
         for k in 0..count {
             let part = part(self.graph, self.index, node, k + 1);
             self.parts.push(number_among(children, first, part))?;
@@ -162,7 +107,7 @@ impl<'a> Walk<'a> {
         requires index { IsIndexOf self.old.graph.now self.old.index.now }
         requires inside { node < length self.old.graph.now.nodes }
     {
-        let first = self.number()?;
+        let first = self.first;
         for k in 0..count {
             let part = argument(self.graph, self.index, node, k + 1);
             self.parts.push(number_among(children, first, part))?;
@@ -172,7 +117,7 @@ impl<'a> Walk<'a> {
 
     /// Adds all children of a node as its parts.
     fn add_children(&mut self, children: &[Edge]) -> Result<(), AllocError> {
-        let mut number = self.number()?;
+        let mut number = self.first;
         for _ in children {
             self.parts.push(Some(number))?;
             number = number.checked_add(1).ok_or(AllocError)?;
@@ -191,7 +136,7 @@ impl<'a> Walk<'a> {
             Kind::For => self.add_parts(node, children, 4),
             Kind::Return => self.add_parts(node, children, 1),
             Kind::JumpTarget => {
-                let first = self.number()?;
+                let first = self.first;
                 let statement = part(self.graph, self.index, node, 2);
                 self.parts.push(None)?;
                 self.parts.push(number_among(children, first, statement))?;
@@ -251,40 +196,48 @@ impl<'a> Walk<'a> {
         }
     }
 
-    /// Goes on from a node to its children.
-    fn step(&mut self, number: u32) -> Result<(), AllocError> {
-        let met = self.met[number as usize];
-        let kind = kind_of(self.graph, met.node);
+    /// Adds the row and the jumps of a node other than the function.
+    fn add_construct(&mut self, number: u32, kind: Kind, met: Met) -> Result<(), AllocError> {
         let from = self.parts.len();
-        if kind == Kind::Function {
+        if kind.is_jump_target() {
+            self.add_label(number, met.node)?;
+        }
+        if !met.walked {
             return self.add_row(Rule::Silent, from);
         }
         let children = self.index.out(met.node, EdgeKind::Ast);
-        if kind == Kind::JumpTarget {
-            self.add_label(number, met.node)?;
+        self.add_parts_of(met.node, kind, children)?;
+        let mut rule = rule_of(kind);
+        if kind == Kind::For && self.parts[from + 1].is_none() {
+            rule = Rule::Endless;
         }
-        if met.walked {
-            self.add_parts_of(met.node, kind, children)?;
-            let mut rule = rule_of(kind);
-            if kind == Kind::For && self.parts[from + 1].is_none() {
-                rule = Rule::Endless;
-            }
-            self.add_row(rule, from)?;
-            self.add_jumps(number, kind, met)?;
+        self.add_row(rule, from)?;
+        self.add_jumps(number, kind, met)
+    }
+
+    /// Adds the row of the function.
+    fn add_function(&mut self, method: u32) -> Result<(), AllocError> {
+        let children = self.index.out(method, EdgeKind::Ast);
+        let body = child_of(self.graph, self.index, method, Label::Block);
+        self.parts.push(number_among(children, 1, body))?;
+        self.add_row(Rule::Method, 0)
+    }
+
+    /// Goes on from a node behind its children.
+    fn step(&mut self, number: u32) -> Result<(), AllocError> {
+        let met = self.met[number as usize];
+        let kind = kind_of(self.graph, met.node);
+        if number == 0 {
+            self.add_function(met.node)?;
         } else {
-            self.add_row(Rule::Silent, from)?;
+            self.add_construct(number, kind, met)?;
+            if kind.is_function() {
+                return Ok(());
+            }
         }
-        let walked = met.walked && !kind.is_passed_over() && kind != Kind::SizeOf;
-        let mut but = None;
-        if kind == Kind::JumpTarget {
-            but = part(self.graph, self.index, met.node, 1);
-        }
-        self.meet(
-            children,
-            walked,
-            but,
-            around_below(kind, number, met.around),
-        )
+        let count = self.index.out(met.node, EdgeKind::Ast).len();
+        self.first += count as u32;
+        Ok(())
     }
 
     /// Leads each `goto` to its label.
@@ -321,16 +274,12 @@ pub fn function_flow(
     requires index { IsIndexOf graph.now index.now }
     requires inside { method < length graph.now.nodes }
 {
-    let around = Around {
-        nearest_loop: None,
-        switch: None,
-        left: None,
-    };
     let mut walk = Walk {
         alloc,
         graph,
         index,
-        met: Vec::new(alloc),
+        met: met_in(alloc, graph, index, method)?,
+        first: 1,
         rows: Vec::new(alloc),
         parts: Vec::new(alloc),
         targets: Vec::new(alloc),
@@ -340,29 +289,12 @@ pub fn function_flow(
         labels: Vec::new(alloc),
         gotos: Vec::new(alloc),
     };
-    walk.met.push(Met {
-        node: method,
-        walked: true,
-        around,
-    })?;
-    let children = index.out(method, EdgeKind::Ast);
-    let body = child_of(graph, index, method, Label::Block);
-    walk.parts.push(number_among(children, 1, body))?;
-    walk.add_row(Rule::Method, 0)?;
-    for edge in children {
-        walk.met.push(Met {
-            node: edge.to,
-            walked: body == Some(edge.to),
-            around,
-        })?;
+    for number in 0..walk.met.len() {
+        walk.step(number as u32)?;
     }
+    let children = index.out(method, EdgeKind::Ast);
     let end = child_of(graph, index, method, Label::MethodReturn);
     let method_return = number_among(children, 1, end);
-    let mut next = 1;
-    while next < walk.met.len() {
-        walk.step(next as u32)?;
-        next += 1;
-    }
     walk.lead_gotos()?;
     let Walk {
         met,
@@ -372,6 +304,7 @@ pub fn function_flow(
         breaks,
         continues,
         alloc: _,
+        first: _,
         graph: _,
         index: _,
         names: _,
