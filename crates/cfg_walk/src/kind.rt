@@ -88,7 +88,7 @@ fn statement_kind(name: &[u8]) -> Kind
 
 /// The kind of a CALL.
 fn call_kind(name: Option<&[u8]>) -> Kind
-    ensures { shown result ≡ kind_of_name operators call (option_copied name) }
+    ensures { shown result ≡ kind_of_name operators call (option_copied name.entry) }
 {
     match name {
         Some(name) => operator_kind(name),
@@ -98,7 +98,7 @@ fn call_kind(name: Option<&[u8]>) -> Kind
 
 /// The kind of a CONTROL_STRUCTURE.
 fn structure_kind(name: Option<&[u8]>) -> Kind
-    ensures { shown result ≡ kind_of_name statements unknown (option_copied name) }
+    ensures { shown result ≡ kind_of_name statements unknown (option_copied name.entry) }
 {
     match name {
         Some(name) => statement_kind(name),

@@ -1,0 +1,10 @@
+pub mod Lists
+pub mod Children
+pub mod Numbers
+pub mod Family
+pub mod Found
+pub mod Asked
+pub mod Complete
+pub mod Walks
+pub mod Nearest
+pub mod Arounds
