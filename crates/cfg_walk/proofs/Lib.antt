@@ -3,6 +3,7 @@ pub mod Children
 pub mod Numbers
 pub mod Family
 pub mod Found
+pub mod Steps
 pub mod Asked
 pub mod Complete
 pub mod Walks

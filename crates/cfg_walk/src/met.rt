@@ -1,13 +1,14 @@
 //! The nodes of a function, breadth first: a node has a number above that of its parent.
 
-ghost use Rattle.std.specs.Prelude.{◌≡◌, ◌<◌, ◌++◌, Some, IfOk, OnOk, length, map, slice_get};
+ghost use Rattle.std.specs.Prelude.{◌≡◌, ◌<◌, ◌++◌, ◌∷◌, [], ◌==◌, ◌||◌, not, Some, IfOk, OnOk};
+ghost use Rattle.std.specs.Prelude.{length, map, slice_get};
 ghost use Rattle.cpg_schema.specs.Shape.{IsShaped};
 ghost use Rattle.graph_store.specs.Stored.{plain};
 ghost use Rattle.edge_index.specs.Indexed.{IsIndexOf};
 ghost use Rattle.cfg_layer.specs.Tested.{is_number};
-ghost use Rattle.cfg_walk.specs.Kinds.{node_kind, shown};
-ghost use Rattle.cfg_walk.specs.Met.{AreMet, around_below, below, child_met, evaluated_below};
-ghost use Rattle.cfg_walk.specs.Met.{evaluates, first_met, nearest};
+ghost use Rattle.cfg_walk.specs.Kinds.{is_function, node_kind, shown};
+ghost use Rattle.cfg_walk.specs.Met.{AreMet, around_below, below, child_met, constant_of};
+ghost use Rattle.cfg_walk.specs.Met.{evaluated_below, evaluates, first_met, goes_on, nearest};
 
 use crate::kind::{Kind, kind_of};
 use cpg_schema::{EdgeKind, Label};
@@ -85,6 +86,26 @@ fn around_below(kind: Kind, number: u32, around: Around) -> Around
     }
 }
 
+/// The expression of a `case`, where the node is one.
+fn constant_of(graph: &Graph, index: &Index, node: u32, kind: Kind) -> Option<u32>
+    requires index { IsIndexOf graph.now index.now }
+    requires inside { node < length graph.now.nodes }
+    ensures { result ≡ constant_of (plain graph.now) (shown kind) node }
+{
+    if kind.is_jump_target() {
+        part(graph, index, node, 1)
+    } else {
+        None
+    }
+}
+
+/// Whether children of a node of this kind are walked.
+fn goes_on(kind: Kind, from: Met) -> bool
+    ensures { result ≡ goes_on (shown kind) from }
+{
+    from.walked && !kind.is_passed_over() && !kind.is_size_of()
+}
+
 /// Which children of a node are walked: of the function itself its BLOCK alone.
 fn evaluated_below(graph: &Graph, index: &Index, number: u32, from: Met, kind: Kind) -> Evaluated
     requires index { IsIndexOf graph.now index.now }
@@ -94,13 +115,18 @@ fn evaluated_below(graph: &Graph, index: &Index, number: u32, from: Met, kind: K
 {
     if number == 0 {
         Evaluated::Only(child_of(graph, index, from.node, Label::Block))
-    } else if !from.walked || kind.is_passed_over() || kind.is_size_of() {
-        Evaluated::Only(None)
-    } else if kind.is_jump_target() {
-        Evaluated::AllBut(part(graph, index, from.node, 1))
+    } else if goes_on(kind, from) {
+        Evaluated::AllBut(constant_of(graph, index, from.node, kind))
     } else {
-        Evaluated::AllBut(None)
+        Evaluated::Only(None)
     }
+}
+
+/// Whether the walk goes down from a node of this number and kind.
+fn goes_down(number: u32, kind: Kind) -> bool
+    ensures { result ≡ ((number == 0) || not (is_function (shown kind))) }
+{
+    number == 0 || !kind.is_function()
 }
 
 /// Comes to the children of a node.
@@ -135,13 +161,31 @@ fn step(graph: &Graph, index: &Index, number: u32, met: &mut Vec<Met>) -> Result
 {
     let from = met[number as usize];
     let kind = kind_of(graph, from.node);
-    if number != 0 && kind.is_function() {
+    if !goes_down(number, kind) {
         return Ok(());
     }
     let evaluated = evaluated_below(graph, index, number, from, kind);
     let around = around_below(kind, number, from.around);
     let children = index.out(from.node, EdgeKind::Ast);
-    meet(children, evaluated, around, met)
+    meet(children, evaluated, around, met)?;
+    Ok(())
+}
+
+/// The function itself alone.
+fn first(alloc: Global, method: u32) -> Result<Vec<Met>, AllocError>
+    ensures { IfOk result (λ met. met.items ≡ first_met method ∷ []) }
+{
+    let mut met = Vec::new(alloc);
+    met.push(Met {
+        node: method,
+        walked: false,
+        around: Around {
+            nearest_loop: None,
+            switch: None,
+            left: None,
+        },
+    })?;
+    Ok(met)
 }
 
 /// The nodes of a function, down to the METHODs in it. It is the first, and each other one comes
@@ -158,16 +202,7 @@ pub(crate) fn met_in(
     ensures { IfOk result (λ met. AreMet (plain graph.now) method met.items) }
 {
     law_stored(graph);
-    let mut met = Vec::new(alloc);
-    met.push(Met {
-        node: method,
-        walked: false,
-        around: Around {
-            nearest_loop: None,
-            switch: None,
-            left: None,
-        },
-    })?;
+    let mut met = first(alloc, method)?;
     let mut number: u32 = 0;
     while (number as usize) < met.len() {
         step(graph, index, number, &mut met)?;
