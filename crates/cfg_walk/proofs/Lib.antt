@@ -9,3 +9,4 @@ pub mod Complete
 pub mod Walks
 pub mod Nearest
 pub mod Arounds
+pub mod Tells

@@ -44,12 +44,12 @@ pub record IsMapped {X Y : Type 0} (f : X → Y) (xs : List X) (k : ℕ) (y : Y)
   pub is : y ≡ f from
 
 pub get_map : {X Y : Type 0} (f : X → Y) (xs : List X) (k : ℕ) (y : Y) → slice_get (map f xs) k ≡ Some y → IsMapped f xs k y
-get_map f xs k y e = by (slice_get xs k) refl (sym (slice_get-map f xs k) ∙ e)
+get_map {X = X} {Y = Y} f xs k y e = by (slice_get xs k) refl (sym (slice_get-map f xs k) ∙ e)
   where
     by : (o : Option X) → slice_get xs k ≡ o → option_map f o ≡ Some y → IsMapped f xs k y
     by None is e = cc
     by (Some x) is e = record { from = x; from_is = is; is = (let s : f x ≡ y = cc in sym s) }
 
 pub map_map : {X Y Z : Type 0} (f : Y → Z) (g : X → Y) (xs : List X) → map f (map g xs) ≡ map (λ (x : X). f (g x)) xs
-map_map f g [] = refl
-map_map f g (x ∷ xs) = ap (λ (zs : List Z). f (g x) ∷ zs) (map_map f g xs)
+map_map {Z = Z} f g [] = refl
+map_map {Z = Z} f g (x ∷ xs) = ap (λ (zs : List Z). f (g x) ∷ zs) (map_map f g xs)

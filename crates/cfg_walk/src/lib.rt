@@ -2,6 +2,7 @@
 #![tactic(auto)]
 
 mod kind;
+pub mod laws;
 mod met;
 #[cfg(test)]
 mod small_functions;

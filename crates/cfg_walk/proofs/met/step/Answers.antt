@@ -10,15 +10,15 @@ use Rattle.cfg_walk.proofs.Lists.{same_get}
 use Rattle.cfg_walk.proofs.Steps.{step_is, step_none}
 use Rattle.cfg_walk.proofs.met.step.Goals as goal
 
-pub returns-then-goes_down : goal.returns-then-goes_down
-returns-then-goes_down c =
+pub returns-then-not-goes_down : goal.returns-then-not-goes_down
+returns-then-not-goes_down c =
     let graph = plain c.args.graph.now in
     let met = c.args.met.now.items in
     let number = c.args.number in
     let at = c.index-from.result.now in
     let at_is : slice_get met number ≡ Some at = slice_get_read met (length met) number at refl c.requires.listed c.index-from.ensures in
     let kind = c.kind_of-kind.ensures in
-    let down : goes_down graph number at ≡ false = sym (c.goes_down.ensures ∙ ap (λ (k : Kind). (number == 0) || not (is_function k)) kind) ∙ c.if-goes_down.false in
+    let down : goes_down graph number at ≡ false = sym (c.goes_down.ensures ∙ ap (λ (k : Kind). (number == 0) || not (is_function k)) kind) ∙ c.if-not-goes_down.true in
     λ from from_is.
     let same : at ≡ from = same_get met number at from at_is from_is in
     subst (λ (m : Met). met ≡ met ++ below graph number m) same (step_none c.args.graph.now c.args.index.now c.requires.index number at met down)
@@ -43,7 +43,7 @@ returns c =
     let at = c.index-from.result.now in
     let at_is : slice_get met number ≡ Some at = slice_get_read met (length met) number at refl c.requires.listed c.index-from.ensures in
     let kind = c.kind_of-kind.ensures in
-    let down : goes_down graph number at ≡ true = sym (c.goes_down.ensures ∙ ap (λ (k : Kind). (number == 0) || not (is_function k)) kind) ∙ c.if-goes_down.true in
+    let down : goes_down graph number at ≡ true = sym (c.goes_down.ensures ∙ ap (λ (k : Kind). (number == 0) || not (is_function k)) kind) ∙ c.if-not-goes_down.false in
     let around = c.around_below-around.ensures ∙ ap (λ (k : Kind). around_below k number at.around) kind in
     let more = step_is c.args.graph.now c.args.index.now c.requires.index number at c.out-children.result.now c.evaluated_below-evaluated.result c.around_below-around.result
     c.out-children.ensures c.evaluated_below-evaluated.ensures around down in
