@@ -14,15 +14,15 @@ use Rattle.cfg_walk.specs.Kinds.{is_function, is_jump_target, is_loop, is_size_o
 -- A test of kinds, asked of the node of a number.
 pub tells_at : (graph : PlainGraph) (test : Kind → Bool) (P : PlainNode → Type 0) → ((node : PlainNode) → Tells (test (kind_of node)) (P node)) → test unknown ≡ false → (number : ℕ) →
     Tells (test (node_kind graph number)) (IsNodeWith graph P number)
-tells_at graph test P t no number = by (slice_get graph.nodes number) refl
+tells_at graph test P t lacking number = by (slice_get graph.nodes number) refl
   where
-    yes : (o : Option PlainNode) → slice_get graph.nodes number ≡ o → test (kind_at o) ≡ true → IsNodeWith graph P number
-    yes None is e = (let s : false ≡ true = sym no ∙ e in cc)
-    yes (Some node) is e = record { node = node; node_is = is; has = (t node).yes e }
+    found : (o : Option PlainNode) → slice_get graph.nodes number ≡ o → test (kind_at o) ≡ true → IsNodeWith graph P number
+    found None is e = (let s : false ≡ true = sym lacking ∙ e in cc)
+    found (Some node) is e = record { node = node; node_is = is; has = (t node).yes e }
 
     by : (o : Option PlainNode) → slice_get graph.nodes number ≡ o → Tells (test (node_kind graph number)) (IsNodeWith graph P number)
     by o is = record {
-      yes = λ e. yes (slice_get graph.nodes number) refl e;
+      yes = λ e. found (slice_get graph.nodes number) refl e;
       told = λ h. subst (λ (v : Option PlainNode). test (kind_at v) ≡ true) (sym h.node_is) ((t h.node).told h.has);
     }
 
@@ -64,7 +64,7 @@ loop_told for_loop h = refl
 loop_told _ h = absurd h
 
 tells_kind_is : (test : Kind → Bool) (kind : Kind) → ((k : Kind) → test k ≡ true → k ≡ kind) → test kind ≡ true → (node : PlainNode) → Tells (test (kind_of node)) (HasKind kind node)
-tells_kind_is test kind yes told node = record { yes = λ e. yes (kind_of node) e; told = λ e. subst (λ (v : Kind). test v ≡ true) (sym e) told }
+tells_kind_is test kind known told node = record { yes = λ e. known (kind_of node) e; told = λ e. subst (λ (v : Kind). test v ≡ true) (sym e) told }
 
 tells_loop_kind : (node : PlainNode) → Tells (is_loop (kind_of node)) (IsLoop node)
 tells_loop_kind node = record { yes = loop_yes (kind_of node); told = loop_told (kind_of node) }

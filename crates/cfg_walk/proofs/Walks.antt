@@ -119,8 +119,8 @@ module _ (graph : PlainGraph) (shaped : IsShaped graph) (is_graph : IsGraph grap
           walk_below p.from.node at.node (rest p.parent p.from (omega arith) p.from_is g.walked) p.is_child g.passes (evaluated g both.1)
         where
           evaluated : GoesOn graph p.from → not (is_number at.node (constant_of graph (node_kind graph p.from.node) p.from.node)) ≡ true → ¬ IsUnevaluated graph p.from.node at.node
-          evaluated g no (operand _ is) = g.size is
-          evaluated g no (constant _ is part) = not_true (is_number at.node (constant_of graph (node_kind graph p.from.node) p.from.node)) no (constant_told graph p.from.node at.node is part)
+          evaluated g other (operand _ is) = g.size is
+          evaluated g other (constant _ is part) = not_true (is_number at.node (constant_of graph (node_kind graph p.from.node) p.from.node)) other (constant_told graph p.from.node at.node is part)
 
       by : PlaceOf x at → YesBelow fuel → IsWalked graph method at.node
       by (at_top s f) rest = (let c : false ≡ true = sym (ap (λ (m : Met). m.walked) f) ∙ w in cc)
