@@ -3,9 +3,9 @@ use Rattle.std.proofs.Common.{ℕ, ◌≡◌, Option, Some, None, refl, ap}
 use Rattle.cpg_schema.specs.declared.label.Label.TheVariants as label
 use Rattle.cpg_schema.specs.Graph.{PlainGraph}
 use Rattle.graph_parts.specs.Finds.{Finds, IsLeast}
-use Rattle.graph_parts.specs.Parts.{IsChildOf, IsPart}
-use Rattle.cfg_layer.specs.Tested.{block_at, part_at}
-use Rattle.cfg_layer.proofs.Telling.{block_found, one_least, part_found}
+use Rattle.graph_parts.specs.Parts.{IsArgument, IsChildOf, IsPart}
+use Rattle.cfg_layer.specs.Tested.{argument_at, block_at, part_at}
+use Rattle.cfg_layer.proofs.Telling.{argument_found, block_found, one_least, part_found}
 
 pub found_same : (P : ℕ → Type 0) (o p : Option ℕ) → Finds (IsLeast P) o → Finds (IsLeast P) p → o ≡ p
 found_same P None None f g = refl
@@ -18,3 +18,6 @@ block_is graph node o f = found_same _ o (block_at graph node) f (block_found gr
 
 pub part_is : (graph : PlainGraph) (k node : ℕ) (o : Option ℕ) → Finds (IsPart graph k node) o → o ≡ part_at graph k node
 part_is graph k node o f = found_same _ o (part_at graph k node) f (part_found graph k node)
+
+pub argument_is : (graph : PlainGraph) (i node : ℕ) (o : Option ℕ) → Finds (IsArgument graph i node) o → o ≡ argument_at graph i node
+argument_is graph i node o f = found_same _ o (argument_at graph i node) f (argument_found graph i node)

@@ -10,3 +10,6 @@ pub mod Walks
 pub mod Nearest
 pub mod Arounds
 pub mod Tells
+pub mod Same
+pub mod Adding
+pub mod Placed

@@ -4,6 +4,7 @@
 mod kind;
 pub mod laws;
 mod met;
+mod parts;
 #[cfg(test)]
 mod small_functions;
 mod walk;

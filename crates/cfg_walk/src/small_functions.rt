@@ -17,7 +17,7 @@ type Drawn = (Label, &'static str, &'static str, u32, Option<u32>);
 type Sketch = (&'static [Drawn], &'static [(u32, u32)]);
 
 const FILES: [Sketch; 10] = [
-    // `void f(int n){ for(;n;n++) continue; }`
+    // `void f(int n){ for(;n;n++) continue; }`.
     (
         &[
             (Label::Method, "<global>", "", 1, None),
@@ -35,7 +35,7 @@ const FILES: [Sketch; 10] = [
         ],
         &[(0, 11), (2, 6), (6, 9), (6, 10), (7, 6), (8, 7), (9, 8)],
     ),
-    // `int f(void){return (((((((((((((((((((((((((((((((((((((((((((((((((((((((((((((`
+    // A `return` of a literal.
     (
         &[
             (Label::Method, "<global>", "", 1, None),
@@ -49,7 +49,7 @@ const FILES: [Sketch; 10] = [
         ],
         &[(0, 7), (2, 5), (4, 6), (5, 4)],
     ),
-    // `void f(int n){ switch(n){case 1: a(); case 2: b();} goto L; while(n){L: c();} }`
+    // `void f(int n){ switch(n){case 1: a(); case 2: b();} goto L; while(n){L: c();} }`.
     (
         &[
             (Label::Method, "<global>", "", 1, None),
@@ -92,7 +92,7 @@ const FILES: [Sketch; 10] = [
             (19, 16),
         ],
     ),
-    // `static int g # 7 "x%y.c" (int n ); int sink ( __attribute__((packed)) int n);int`
+    // A `return` in an `if`, and a `switch` whose `default` stands before its `case`s.
     (
         &[
             (Label::Method, "<global>", "", 1, None),
@@ -150,7 +150,7 @@ const FILES: [Sketch; 10] = [
             (27, 25),
         ],
     ),
-    // `void f(void){ for(;;); }`
+    // `void f(void){ for(;;); }`.
     (
         &[
             (Label::Method, "<global>", "", 1, None),
@@ -163,7 +163,7 @@ const FILES: [Sketch; 10] = [
         ],
         &[(0, 6)],
     ),
-    // `typedef int T; double main(volatile T(* volatile x) (int * b)) [L'w' .T.x] { x =`
+    // `sizeof` of a type, and a `do` with a `return` and a `break` in it.
     (
         &[
             (Label::Method, "<global>", "", 1, None),
@@ -202,7 +202,7 @@ const FILES: [Sketch; 10] = [
             (18, 19),
         ],
     ),
-    // `char(a) (int * x) { int * b; out : while (x != 1 .T) if (b) b = 1; else continue`
+    // A label before a `while`, whose body is an `if` with a `continue` in its else part.
     (
         &[
             (Label::Method, "<global>", "", 1, None),
@@ -245,7 +245,7 @@ const FILES: [Sketch; 10] = [
             (18, 9),
         ],
     ),
-    // `void g(void){ r = a && b || c ? d : e; }`
+    // `void g(void){ r = a && b || c ? d : e; }`.
     (
         &[
             (Label::Method, "<global>", "", 1, None),
@@ -283,7 +283,7 @@ const FILES: [Sketch; 10] = [
             (13, 6),
         ],
     ),
-    // `int f(void) { long a; do break; while (sizeof (char *) &= a); a[sink() ++ = (1, `
+    // `do break; while (sizeof (char *) &= a);`, and an assignment with `? :` in it.
     (
         &[
             (Label::Method, "<global>", "", 1, None),
@@ -385,7 +385,7 @@ const FILES: [Sketch; 10] = [
             (41, 42),
         ],
     ),
-    // `#pragma pack(1) int x ( char c [ src], int a , char ) { /* " ' # */ long p ; ; s`
+    // A `switch` with a `goto` in its second `case`, and the label behind it.
     (
         &[
             (Label::Method, "<global>", "", 1, None),
