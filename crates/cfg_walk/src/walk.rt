@@ -7,12 +7,13 @@ ghost use Rattle.edge_index.specs.Indexed.{IsIndexOf};
 
 use crate::kind::{Kind, kind_of};
 use crate::met::{Met, met_in};
+use crate::parts::{Family, number_among};
 use cfg_flow::{Jump, Plan, Row, flow};
 use cfg_rules::Rule;
 use cpg_schema::{EdgeKind, Key, Label};
 use edge_index::Index;
-use graph_parts::{argument, child_of, part};
-use graph_store::{Edge, Graph};
+use graph_parts::child_of;
+use graph_store::Graph;
 use name_table::Names;
 use std::alloc::{AllocError, Global};
 
@@ -32,19 +33,6 @@ struct Walk<'a> {
     names: Names,
     labels: Vec<u32>,
     gotos: Vec<u32>,
-}
-
-/// The number of a child, where the first has this number.
-fn number_among(children: &[Edge], first: u32, child: Option<u32>) -> Option<u32> {
-    let child = child?;
-    let mut number = first;
-    for edge in children {
-        if edge.to == child {
-            return Some(number);
-        }
-        number = number.checked_add(1)?;
-    }
-    None
 }
 
 /// The rule of a walked node of this kind, but for a `for` and a `switch`.
@@ -86,64 +74,6 @@ impl<'a> Walk<'a> {
         let to = u32::try_from(self.parts.len()).map_err(|_| AllocError)?;
         self.rows.push(Row { rule, from, to })?;
         Ok(())
-    }
-
-    /// Adds the first so many parts of a node.
-    fn add_parts(&mut self, node: u32, children: &[Edge], count: u32) -> Result<(), AllocError>
-        requires index { IsIndexOf self.old.graph.now self.old.index.now }
-        requires inside { node < length self.old.graph.now.nodes }
-    {
-        let first = self.first;
-        for k in 0..count {
-            let part = part(self.graph, self.index, node, k + 1);
-            self.parts.push(number_among(children, first, part))?;
-        }
-        Ok(())
-    }
-
-    /// Adds the first so many arguments of a node.
-    fn add_arguments(&mut self, node: u32, children: &[Edge], count: u32) -> Result<(), AllocError>
-        requires shaped { IsShaped (plain self.old.graph.now) }
-        requires index { IsIndexOf self.old.graph.now self.old.index.now }
-        requires inside { node < length self.old.graph.now.nodes }
-    {
-        let first = self.first;
-        for k in 0..count {
-            let part = argument(self.graph, self.index, node, k + 1);
-            self.parts.push(number_among(children, first, part))?;
-        }
-        Ok(())
-    }
-
-    /// Adds all children of a node as its parts.
-    fn add_children(&mut self, children: &[Edge]) -> Result<(), AllocError> {
-        let mut number = self.first;
-        for _ in children {
-            self.parts.push(Some(number))?;
-            number = number.checked_add(1).ok_or(AllocError)?;
-        }
-        Ok(())
-    }
-
-    /// Adds the parts of a walked node that is of this kind.
-    fn add_parts_of(&mut self, node: u32, kind: Kind, children: &[Edge]) -> Result<(), AllocError> {
-        match kind {
-            Kind::Call | Kind::Block => self.add_children(children),
-            Kind::ShortCircuit => self.add_arguments(node, children, 2),
-            Kind::Conditional => self.add_arguments(node, children, 3),
-            Kind::If => self.add_parts(node, children, 3),
-            Kind::While | Kind::Do | Kind::Switch => self.add_parts(node, children, 2),
-            Kind::For => self.add_parts(node, children, 4),
-            Kind::Return => self.add_parts(node, children, 1),
-            Kind::JumpTarget => {
-                let first = self.first;
-                let statement = part(self.graph, self.index, node, 2);
-                self.parts.push(None)?;
-                self.parts.push(number_among(children, first, statement))?;
-                Ok(())
-            }
-            _ => Ok(()),
-        }
     }
 
     /// Keeps a JUMP_TARGET by its NAME: the one of the least node.
@@ -206,7 +136,14 @@ impl<'a> Walk<'a> {
             return self.add_row(Rule::Silent, from);
         }
         let children = self.index.out(met.node, EdgeKind::Ast);
-        self.add_parts_of(met.node, kind, children)?;
+        let family = Family {
+            graph: self.graph,
+            index: self.index,
+            node: met.node,
+            children,
+            first: self.first,
+        };
+        family.add(kind, &mut self.parts)?;
         let mut rule = rule_of(kind);
         if kind == Kind::For && self.parts[from + 1].is_none() {
             rule = Rule::Endless;
