@@ -86,6 +86,30 @@ impl Graph {
         self.names.text(self.nodes[id as usize].text(key))
     }
 
+    /// The number of the pooled name that is the text of this key. Two texts are equal exactly where
+    /// their numbers are.
+    #[inline(always)]
+    pub fn text_number(&self, id: u32, key: Key) -> Option<u32>
+        requires { id < length self.now.nodes }
+        ensures text { option_and_then (slice_get self.now.names) result ≡
+            option_and_then (text_of key) (slice_get self.now.nodes id) }
+        ensures within { IfSome result (λ number. number < length self.now.names) }
+    {
+        let number = self.nodes[id as usize].text(key);
+        if number < self.names.len() {
+            Some(number)
+        } else {
+            None
+        }
+    }
+
+    /// How many names are pooled.
+    pub fn name_count(&self) -> u32
+        ensures { result ≡ length self.now.names }
+    {
+        self.names.len()
+    }
+
     /// The number that a node has of this key.
     #[inline(always)]
     pub fn number(&self, id: u32, key: Key) -> Option<u32>
