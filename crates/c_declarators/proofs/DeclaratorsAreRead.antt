@@ -13,7 +13,7 @@ use Rattle.c_scopes.specs.Scopes.{OpenScopes, entered}
 use Rattle.c_scopes.specs.Scopes.{left}
 use Rattle.reading.specs.declared.turn.Turn.TheVariants.{Again, Done}
 use Rattle.reading.specs.Terminals.{are_disjoint, is_within}
-use Rattle.reading.proofs.ReadBy.{Stage, no, keeping, read_pure, read_changes, read_weaker, read_given}
+use Rattle.reading.proofs.ReadBy.{Stage, no, keeping, read_pure, read_weaker, read_given}
 use Rattle.reading.proofs.ReadOne.{HasRoom, room_inside}
 use Rattle.reading.proofs.ReadThen.{read_then, read_token, read_map}
 use Rattle.reading.proofs.ReadEither.{read_either, read_optional}
@@ -283,12 +283,12 @@ module _ (tokens : Tokens) {stage : Stage} {level room : ℕ} (fits : HasRoom st
   pub no_params_is_read : {given : Type 0} (left_ : ℕ) → IsRead tokens stage given (λ d. lang.no_params d level (inner d) left_) (read.no_params room readers left_) no (mark MARK_RIGHT_PAREN ∷ []) nothing
   unfolding lang.no_params read.no_params
   no_params_is_read left_ =
-      read_token deeper (sample tokens (mark MARK_RIGHT_PAREN ∷ []) (Mark MARK_RIGHT_PAREN) refl refl refl) (λ r. read_changes left (suffix.Params [] None (left_ ∷ r ∷ [])))
+      read_token deeper (sample tokens (mark MARK_RIGHT_PAREN ∷ []) (Mark MARK_RIGHT_PAREN) refl refl refl) (λ r. read_pure (suffix.Params [] None (left_ ∷ r ∷ [])))
 
   pub last_param_is_read : {given : Type 0} (params : Params) (dots : Option ℕ) → IsRead tokens stage given (λ d. lang.last_param d level (inner d) params dots) (read.last_param room readers params dots) no (mark MARK_RIGHT_PAREN ∷ []) (by_turn after_param nothing)
   unfolding lang.last_param read.last_param
   last_param_is_read params dots =
-      read_weaker (by_turn after_param nothing) (λ g. g) (λ a. refl) (read_token deeper (sample tokens (mark MARK_RIGHT_PAREN ∷ []) (Mark MARK_RIGHT_PAREN) refl refl refl) (λ r. read_changes left (Done (params_of params dots r))))
+      read_weaker (by_turn after_param nothing) (λ g. g) (λ a. refl) (read_token deeper (sample tokens (mark MARK_RIGHT_PAREN ∷ []) (Mark MARK_RIGHT_PAREN) refl refl refl) (λ r. read_pure (Done (params_of params dots r))))
 
   pub dots_is_read : {given : Type 0} (params : Params) → IsRead tokens stage given (λ d. lang.dots d level (inner d) params) (read.dots room readers params) no (mark MARK_ELLIPSIS ∷ []) (by_turn after_param nothing)
   unfolding lang.dots read.dots
@@ -316,7 +316,7 @@ module _ (tokens : Tokens) {stage : Stage} {level room : ℕ} (fits : HasRoom st
       let t = (sample tokens (mark MARK_RIGHT_PAREN ∷ []) (Mark MARK_RIGHT_PAREN) refl refl refl) scopes in record {
         word = (t.token, suc level) ∷ [];
         value = params_of params None t.token.number;
-        scope' = left scopes;
+        scope' = scopes;
         turns = 0;
         lexemes = (t.lexeme, tt);
         is = λ n h. inr (record {
@@ -344,10 +344,15 @@ module _ (tokens : Tokens) {stage : Stage} {level room : ℕ} (fits : HasRoom st
   params_inside_is_read left_ =
       read_either (no_params_is_read left_) (some_params_is_read left_) refl
 
+  pub open_params_is_read : (left_ : ℕ) → IsRead tokens stage (0 < room - 1) (λ d. lang.open_params d level (inner d) left_) (read.open_params room readers left_) no begins_params nothing
+  unfolding lang.open_params read.open_params
+  open_params_is_read left_ =
+      read_behind_change entered same_entered (params_inside_is_read left_)
+
   pub params_is_read : (left_ : ℕ) → IsRead tokens stage (0 < room - 1) (λ d. lang.params d level (inner d) left_) (read.params room readers left_) no begins_params nothing
   unfolding lang.params read.params
   params_is_read left_ =
-      read_behind_change entered same_entered (params_inside_is_read left_)
+      read_changing (λ (s : Suffix). left) (λ (s : Suffix). s) nothing (open_params_is_read left_) (λ a. fixed [] refl) (λ a. refl)
 
   pub params_suffix_is_read : {given : Type 0} → IsRead tokens stage given (λ d. lang.params_suffix d level (inner d)) (read.params_suffix room readers) no (mark MARK_LEFT_PAREN ∷ []) nothing
   unfolding lang.params_suffix read.params_suffix

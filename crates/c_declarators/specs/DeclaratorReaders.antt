@@ -176,12 +176,12 @@ module _ (room : ℕ) (inner : InsideReaders) where
   unfoldable pub no_params : ℕ → PartReader Suffix
   no_params left = do
     right ← expect_mark MARK_RIGHT_PAREN (room - 1)
-    leave (suffix.Params [] None (left ∷ right ∷ []))
+    pure (suffix.Params [] None (left ∷ right ∷ []))
 
   unfoldable pub last_param : Params → Option ℕ → PartReader (Turn Params Suffix)
   last_param params dots = do
     right ← expect_mark MARK_RIGHT_PAREN (room - 1)
-    leave (Done (params_of params dots right))
+    pure (Done (params_of params dots right))
 
   unfoldable pub dots : Params → PartReader (Turn Params Suffix)
   dots params = do
@@ -212,11 +212,17 @@ module _ (room : ℕ) (inner : InsideReaders) where
   unfoldable pub params_inside : ℕ → PartReader Suffix
   params_inside left = where_mark MARK_RIGHT_PAREN (no_params left) (some_params left)
 
-  -- Behind `(`.
-  unfoldable pub params : ℕ → PartReader Suffix
-  params left = do
+  -- Behind `(`. The scope of the list stays open.
+  unfoldable pub open_params : ℕ → PartReader Suffix
+  open_params left = do
     begun ← enter
     params_inside left
+
+  -- Behind `(`. The scope of the list ends with it (6.2.1p4).
+  unfoldable pub params : ℕ → PartReader Suffix
+  params left = do
+    list ← open_params left
+    leave list
 
   unfoldable pub params_suffix : PartReader Suffix
   params_suffix = do

@@ -164,16 +164,15 @@ module _ (turns level : ℕ) (inner : Inside) where
 
   -- ---- Parameter lists (6.7.6.3)
 
-  -- The scope of the list ends with it (6.2.1p4).
   unfoldable pub no_params : ℕ → Part Suffix
   no_params left = do
     right ← one_mark MARK_RIGHT_PAREN (suc level)
-    leaving (suffix.Params [] None (left ∷ right ∷ []))
+    pure (suffix.Params [] None (left ∷ right ∷ []))
 
   unfoldable pub last_param : Params → Option ℕ → Part (Turn Params Suffix)
   last_param params dots = do
     right ← one_mark MARK_RIGHT_PAREN (suc level)
-    leaving (Done (params_of params dots right))
+    pure (Done (params_of params dots right))
 
   unfoldable pub dots : Params → Part (Turn Params Suffix)
   dots params = do
@@ -204,11 +203,17 @@ module _ (turns level : ℕ) (inner : Inside) where
   unfoldable pub params_inside : ℕ → Part Suffix
   params_inside left = no_params left or some_params left
 
-  -- Behind `(`.
-  unfoldable pub params : ℕ → Part Suffix
-  params left = do
+  -- Behind `(`. The scope of the list stays open.
+  unfoldable pub open_params : ℕ → Part Suffix
+  open_params left = do
     begun ← entering
     params_inside left
+
+  -- Behind `(`. The scope of the list ends with it (6.2.1p4).
+  unfoldable pub params : ℕ → Part Suffix
+  params left = do
+    list ← open_params left
+    leaving list
 
   unfoldable pub params_suffix : Part Suffix
   params_suffix = do

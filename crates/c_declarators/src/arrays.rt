@@ -130,7 +130,7 @@ fn all_pointers(
 
 /// One pointer or more.
 #[tactic(auto, unfolding(crate::specs::DeclaratorReaders::pointers))]
-pub(crate) fn pointers(
+pub fn pointers(
     alloc: Global,
     room: usize,
     source: &mut Source<'_>,

@@ -49,7 +49,8 @@ pub(crate) fn more_suffixes<N: Inside>(
     Ok(suffixes)
 }
 
-pub(crate) fn all_suffixes<N: Inside>(
+/// Suffixes of a declarator, which has a name or none, behind the first of them (C11 6.7.6).
+pub fn all_suffixes<N: Inside>(
     grammar: &Grammar<N>,
     named: bool,
     suffixes: List<Suffix>,

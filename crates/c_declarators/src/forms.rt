@@ -104,7 +104,7 @@ impl Params {
 }
 
 /// A declarator without a width.
-pub(crate) fn declared_of<'t>(
+pub fn declared_of<'t>(
     alloc: Global,
     pointing: Pointing,
     core: Core,
@@ -124,7 +124,7 @@ pub(crate) fn declared_of<'t>(
 }
 
 /// That of a name.
-pub(crate) fn named_of<'t>(
+pub fn named_of<'t>(
     alloc: Global,
     pointing: Pointing,
     word: Word<'t>,

@@ -9,5 +9,9 @@ mod kinds;
 mod param_list;
 mod steps;
 
+pub use arrays::pointers;
+pub use cores::all_suffixes;
 pub use declarators::{declarator, grouped, param, type_name};
-pub use forms::{NamedParam, Params, Pointing, Qualified, unnamed_of};
+pub use forms::{NamedParam, Params, Pointing, Qualified, declared_of, named_of, unnamed_of};
+pub use param_list::open_params;
+pub use steps::{is_at_params, is_at_suffix};

@@ -24,7 +24,6 @@ pub(crate) fn no_params<N: Inside>(
         grammar.now.room (N.readers grammar.now.inside) source.old result source.new }
 {
     let right = source.expect_mark(MARK_RIGHT_PAREN, grammar.deeper())?;
-    leave(source);
     Ok(Suffix::Params {
         list: List::new(grammar.alloc),
         dots: None,
@@ -44,7 +43,6 @@ pub(crate) fn last_param<N: Inside>(
         grammar.now.room (N.readers grammar.now.inside) source.old result source.new }
 {
     let right = source.expect_mark(MARK_RIGHT_PAREN, grammar.deeper())?;
-    leave(source);
     let Params { list, mut marks } = params;
     marks.push(right)?;
     Ok(Turn::Done(Suffix::Params { list, dots, marks }))
@@ -168,7 +166,22 @@ pub(crate) fn params_inside<N: Inside>(
     }
 }
 
-/// 6.7.6.3, behind `(`.
+/// 6.7.6.3, behind `(`. The scope of the list stays open.
+#[tactic(auto, unfolding(crate::specs::DeclaratorReaders::open_params))]
+pub fn open_params<N: Inside>(
+    grammar: &Grammar<N>,
+    left: u32,
+    source: &mut Source<'_>,
+) -> Result<Suffix, Stop>
+    requires { N.can_read grammar.now.inside grammar.now.room }
+    ensures { Gives (λ room inner. spec.open_params room inner left)
+        grammar.now.room (N.readers grammar.now.inside) source.old result source.new }
+{
+    enter(source)?;
+    params_inside(grammar, left, source)
+}
+
+/// 6.7.6.3, behind `(`. The scope of the list ends with it.
 #[tactic(auto, unfolding(crate::specs::DeclaratorReaders::params))]
 pub(crate) fn params<N: Inside>(
     grammar: &Grammar<N>,
@@ -179,8 +192,9 @@ pub(crate) fn params<N: Inside>(
     ensures { Gives (λ room inner. spec.params room inner left)
         grammar.now.room (N.readers grammar.now.inside) source.old result source.new }
 {
-    enter(source)?;
-    params_inside(grammar, left, source)
+    let list = open_params(grammar, left, source)?;
+    leave(source);
+    Ok(list)
 }
 
 #[tactic(auto, unfolding(crate::specs::DeclaratorReaders::params_suffix))]

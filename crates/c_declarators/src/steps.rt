@@ -29,7 +29,7 @@ pub(crate) fn is_at_qualifier(source: &Source<'_>) -> bool
 }
 
 /// Whether the next token begins a suffix of a declarator.
-pub(crate) fn is_at_suffix(source: &Source<'_>) -> bool
+pub fn is_at_suffix(source: &Source<'_>) -> bool
     ensures { result ≡ is_ahead terminal_of sets.begins_suffix (input_from source.now) }
 {
     match source.cursor.ahead() {
@@ -81,7 +81,7 @@ pub(crate) fn is_at_some_either(atomic: bool, source: &Source<'_>) -> bool
 }
 
 /// Whether the next token stands first in a parameter list behind its `(`.
-pub(crate) fn is_at_params(source: &Source<'_>) -> bool
+pub fn is_at_params(source: &Source<'_>) -> bool
     ensures { result ≡ is_ahead terminal_of begins_params (input_from source.now) }
 {
     if source.is_at_mark(MARK_RIGHT_PAREN) {

@@ -26,7 +26,7 @@ use Rattle.c_syntax.specs.Sets.{any_name, a_typedef_name, a_basic_type}
 use Rattle.c_specifiers.specs.Words.{NamedToken}
 use Rattle.c_syntax.specs.declared.forms.AssignForm.TheVariants.{Constant}
 use Rattle.c_specifiers.specs.declared.forms.Place.{Place}
-use Rattle.c_specifiers.specs.declared.forms.Place.TheVariants.{Ordinary, Parameter, Member, Nameless}
+use Rattle.c_specifiers.specs.declared.forms.Place.TheVariants.{Ordinary, Definition, Parameter, Member, Nameless}
 use Rattle.c_specifiers.specs.declared.forms.Specified.{Specified}
 use Rattle.c_specifiers.specs.declared.forms.NamedEnumerator.{NamedEnumerator}
 use Rattle.c_specifiers.specs.declared.forms.Members.{Members}
@@ -50,22 +50,26 @@ use Rattle.c_specifiers.proofs.DeclarationReadings.{after_word, after_specifiers
 
 pub brace_apart : (place : Place) → are_disjoint brace (begins_word place) ≡ true
 brace_apart Ordinary = refl
+brace_apart Definition = refl
 brace_apart Parameter = refl
 brace_apart Member = refl
 brace_apart Nameless = refl
 
 paren_apart : (place : Place) → are_disjoint paren (begins_specifiers place) ≡ true
 paren_apart Ordinary = refl
+paren_apart Definition = refl
 paren_apart Parameter = refl
 paren_apart Member = refl
 paren_apart Nameless = refl
 
 word_apart_at : (atomic : Bool) (words : List Spec) (typedef : Bool) (place : Place) → are_disjoint (after_word (record { words = words; typedef = typedef; atomic = atomic })) (begins_word place) ≡ true
 word_apart_at true words typedef Ordinary = refl
+word_apart_at true words typedef Definition = refl
 word_apart_at true words typedef Parameter = refl
 word_apart_at true words typedef Member = refl
 word_apart_at true words typedef Nameless = refl
 word_apart_at false words typedef Ordinary = refl
+word_apart_at false words typedef Definition = refl
 word_apart_at false words typedef Parameter = refl
 word_apart_at false words typedef Member = refl
 word_apart_at false words typedef Nameless = refl
@@ -75,18 +79,21 @@ word_apart specified place = word_apart_at specified.atomic specified.words spec
 
 names_apart : (place : Place) → are_disjoint (key KEY_ATOMIC ∷ begins_specifier ++ begins_modifier place) a_typedef_name ≡ true
 names_apart Ordinary = refl
+names_apart Definition = refl
 names_apart Parameter = refl
 names_apart Member = refl
 names_apart Nameless = refl
 
 atomic_apart : (place : Place) → are_disjoint (begins_specifier ++ begins_modifier place) (key KEY_ATOMIC ∷ []) ≡ true
 atomic_apart Ordinary = refl
+atomic_apart Definition = refl
 atomic_apart Parameter = refl
 atomic_apart Member = refl
 atomic_apart Nameless = refl
 
 types_apart : (place : Place) → are_disjoint (begins_modifier place) begins_specifier ≡ true
 types_apart Ordinary = refl
+types_apart Definition = refl
 types_apart Parameter = refl
 types_apart Member = refl
 types_apart Nameless = refl
@@ -156,10 +163,15 @@ module _ (tokens : Tokens) {stage : Stage} {level room : ℕ} (fits : HasRoom st
   function_modifier_is_read specified =
       read_either (function_word_is_read specified) (aligned_modifier_is_read specified) refl
 
+  pub definition_modifier_is_read : {given : Type 0} (specified : Specified) → IsRead tokens stage given (λ d. lang.definition_modifier d level (inner d) specified) (read.definition_modifier room readers specified) no (begins_modifier Definition) nothing
+  unfolding lang.definition_modifier read.definition_modifier
+  definition_modifier_is_read specified =
+      read_either (storage_word_is_read specified) (function_modifier_is_read specified) refl
+
   pub ordinary_modifier_is_read : {given : Type 0} (specified : Specified) → IsRead tokens stage given (λ d. lang.ordinary_modifier d level (inner d) specified) (read.ordinary_modifier room readers specified) no (begins_modifier Ordinary) nothing
   unfolding lang.ordinary_modifier read.ordinary_modifier
   ordinary_modifier_is_read specified =
-      read_either (typedef_word_is_read specified) (read_either (storage_word_is_read specified) (function_modifier_is_read specified) refl) refl
+      read_either (typedef_word_is_read specified) (definition_modifier_is_read specified) refl
 
   pub parameter_modifier_is_read : {given : Type 0} (specified : Specified) → IsRead tokens stage given (λ d. lang.parameter_modifier d level (inner d) specified) (read.parameter_modifier room readers specified) no (begins_modifier Parameter) nothing
   unfolding lang.parameter_modifier read.parameter_modifier
@@ -169,6 +181,7 @@ module _ (tokens : Tokens) {stage : Stage} {level room : ℕ} (fits : HasRoom st
   modifier_is_read : {given : Type 0} (place : Place) (specified : Specified) →
       IsRead tokens stage given (λ d. lang.modifier d level (inner d) place specified) (read.modifier room readers place specified) no (begins_modifier place) nothing
   modifier_is_read Ordinary specified = ordinary_modifier_is_read specified
+  modifier_is_read Definition specified = definition_modifier_is_read specified
   modifier_is_read Parameter specified = parameter_modifier_is_read specified
   modifier_is_read Member specified = aligned_modifier_is_read specified
   modifier_is_read Nameless specified = qualifier_word_is_read specified

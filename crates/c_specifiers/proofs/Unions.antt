@@ -11,7 +11,7 @@ use Rattle.c_reading.specs.Terminals.{WORD, TYPEDEF_NAME, key}
 use Rattle.c_syntax.specs.Scoping.{terminal_of}
 use Rattle.c_syntax.specs.Sets.{begins_specifier}
 use Rattle.c_specifiers.specs.declared.forms.Place.{Place}
-use Rattle.c_specifiers.specs.declared.forms.Place.TheVariants.{Ordinary, Parameter, Member, Nameless}
+use Rattle.c_specifiers.specs.declared.forms.Place.TheVariants.{Ordinary, Definition, Parameter, Member, Nameless}
 use Rattle.c_specifiers.specs.DeclarationSets.{begins_modifier, begins_word}
 
 or_union : (a b c d : Bool) → b ≡ (c || d) → (a || b) ≡ ((a || c) || d)
@@ -87,6 +87,7 @@ IsAlike set = has set WORD ≡ has set TYPEDEF_NAME
 
 pub word_alike : (place : Place) → IsAlike (begins_word place)
 word_alike Ordinary = refl
+word_alike Definition = refl
 word_alike Parameter = refl
 word_alike Member = refl
 word_alike Nameless = refl

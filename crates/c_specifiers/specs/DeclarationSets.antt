@@ -11,8 +11,8 @@ use Rattle.c_reading.specs.Terminals.{mark, key}
 use Rattle.c_tree.specs.Fits.{function_specifiers}
 use Rattle.c_syntax.specs.Sets.{any_name, a_typedef_name, a_plain_qualifier, begins_specifier}
 use Rattle.c_specifiers.specs.declared.forms.Place.{Place}
-use Rattle.c_specifiers.specs.declared.forms.Place.TheVariants.{Ordinary, Parameter}
-use Rattle.c_specifiers.specs.declared.forms.Place.TheVariants.{Member, Nameless}
+use Rattle.c_specifiers.specs.declared.forms.Place.TheVariants.{Ordinary, Definition}
+use Rattle.c_specifiers.specs.declared.forms.Place.TheVariants.{Parameter, Member, Nameless}
 
 -- ---- Specifiers
 
@@ -31,6 +31,8 @@ a_qualifier = a_plain_qualifier ++ key KEY_ATOMIC ∷ []
 abbrev pub begins_modifier : Place → List ℕ
 begins_modifier Ordinary =
     key KEY_TYPEDEF ∷ a_storage_class ++ a_function_specifier ++ key KEY_ALIGNAS ∷ a_plain_qualifier
+begins_modifier Definition =
+    a_storage_class ++ a_function_specifier ++ key KEY_ALIGNAS ∷ a_plain_qualifier
 begins_modifier Parameter =
     key KEY_REGISTER ∷ a_function_specifier ++ key KEY_ALIGNAS ∷ a_plain_qualifier
 begins_modifier Member = key KEY_ALIGNAS ∷ a_plain_qualifier

@@ -20,7 +20,7 @@ use Rattle.c_syntax.specs.Steps.{where_key}
 use Rattle.c_specifiers.specs.Words.{NamedToken}
 use Rattle.c_syntax.specs.declared.forms.AssignForm.TheVariants.{Constant}
 use Rattle.c_specifiers.specs.declared.forms.Place.{Place}
-use Rattle.c_specifiers.specs.declared.forms.Place.TheVariants.{Ordinary, Parameter}
+use Rattle.c_specifiers.specs.declared.forms.Place.TheVariants.{Ordinary, Definition, Parameter}
 use Rattle.c_specifiers.specs.declared.forms.Place.TheVariants.{Member, Nameless}
 use Rattle.c_specifiers.specs.declared.forms.Specified.{Specified}
 use Rattle.c_specifiers.specs.declared.forms.NamedEnumerator.{NamedEnumerator}
@@ -94,10 +94,13 @@ module _ (room : ℕ) (inner : InsideReaders) where
   function_modifier specified =
       where_among a_function_specifier (function_word specified) (aligned_modifier specified)
 
+  unfoldable pub definition_modifier : Specified → PartReader Specified
+  definition_modifier specified =
+      where_among a_storage_class (storage_word specified) (function_modifier specified)
+
   unfoldable pub ordinary_modifier : Specified → PartReader Specified
   ordinary_modifier specified =
-      where_key KEY_TYPEDEF (typedef_word specified)
-      (where_among a_storage_class (storage_word specified) (function_modifier specified))
+      where_key KEY_TYPEDEF (typedef_word specified) (definition_modifier specified)
 
   unfoldable pub parameter_modifier : Specified → PartReader Specified
   parameter_modifier specified =
@@ -105,6 +108,7 @@ module _ (room : ℕ) (inner : InsideReaders) where
 
   abbrev pub modifier : Place → Specified → PartReader Specified
   modifier Ordinary specified = ordinary_modifier specified
+  modifier Definition specified = definition_modifier specified
   modifier Parameter specified = parameter_modifier specified
   modifier Member specified = aligned_modifier specified
   modifier Nameless specified = qualifier_word specified

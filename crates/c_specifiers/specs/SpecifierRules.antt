@@ -19,7 +19,7 @@ use Rattle.c_syntax.specs.Sets.{any_name, a_typedef_name, a_basic_type}
 use Rattle.c_specifiers.specs.Words.{NamedToken}
 use Rattle.c_syntax.specs.declared.forms.AssignForm.TheVariants.{Constant}
 use Rattle.c_specifiers.specs.declared.forms.Place.{Place}
-use Rattle.c_specifiers.specs.declared.forms.Place.TheVariants.{Ordinary, Parameter}
+use Rattle.c_specifiers.specs.declared.forms.Place.TheVariants.{Ordinary, Definition, Parameter}
 use Rattle.c_specifiers.specs.declared.forms.Place.TheVariants.{Member, Nameless}
 use Rattle.c_specifiers.specs.declared.forms.Specified.{Specified}
 use Rattle.c_specifiers.specs.declared.forms.NamedEnumerator.{NamedEnumerator}
@@ -91,9 +91,13 @@ module _ (turns level : ℕ) (inner : Inside) where
   function_modifier specified =
       function_word specified or aligned_modifier specified
 
+  unfoldable pub definition_modifier : Specified → Part Specified
+  definition_modifier specified =
+      storage_word specified or function_modifier specified
+
   unfoldable pub ordinary_modifier : Specified → Part Specified
   ordinary_modifier specified =
-      typedef_word specified or storage_word specified or function_modifier specified
+      typedef_word specified or definition_modifier specified
 
   unfoldable pub parameter_modifier : Specified → Part Specified
   parameter_modifier specified =
@@ -101,6 +105,7 @@ module _ (turns level : ℕ) (inner : Inside) where
 
   abbrev pub modifier : Place → Specified → Part Specified
   modifier Ordinary specified = ordinary_modifier specified
+  modifier Definition specified = definition_modifier specified
   modifier Parameter specified = parameter_modifier specified
   modifier Member specified = aligned_modifier specified
   modifier Nameless specified = qualifier_word specified

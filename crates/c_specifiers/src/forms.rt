@@ -8,11 +8,13 @@ use joern_io::List;
 use std::alloc::{AllocFailed, Global};
 use std::marker::Model;
 
-/// Where specifiers stand (6.7, 6.7.2.1, 6.7.6.3, 6.7.7).
+/// Where specifiers stand (6.7, 6.7.2.1, 6.7.6.3, 6.7.7, 6.9.1).
 #[derive(Clone, Copy, Drop)]
 pub enum Place {
     /// In a declaration.
     Ordinary,
+    /// In the definition of a function, where there is no `typedef` (6.9.1p4).
+    Definition,
     /// In a parameter.
     Parameter,
     /// In a structure or union.

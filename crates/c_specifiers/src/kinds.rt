@@ -111,6 +111,22 @@ fn begins_modifier(place: Place, kind: Kind) -> bool
                     | KEY_VOLATILE
             )
         ),
+        Place::Definition => matches!(
+            kind,
+            Kind::Key(
+                KEY_EXTERN
+                    | KEY_STATIC
+                    | KEY_THREAD_LOCAL
+                    | KEY_AUTO
+                    | KEY_REGISTER
+                    | KEY_INLINE
+                    | KEY_NORETURN
+                    | KEY_ALIGNAS
+                    | KEY_CONST
+                    | KEY_RESTRICT
+                    | KEY_VOLATILE
+            )
+        ),
         Place::Parameter => matches!(
             kind,
             Kind::Key(

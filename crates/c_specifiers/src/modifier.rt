@@ -179,6 +179,23 @@ impl<N: Inside> Grammar<N> {
         }
     }
 
+    #[tactic(auto, unfolding(crate::specs::SpecifierReaders::definition_modifier))]
+    pub(crate) fn definition_modifier(
+        &self,
+        specified: Specified,
+        source: &mut Source<'_>,
+    ) -> Result<Specified, Stop>
+        requires { N.can_read self.now.inside self.now.room }
+        ensures { Gives (λ room inner. spec.definition_modifier room inner specified)
+            self.now.room (N.readers self.now.inside) source.old result source.new }
+    {
+        if is_at_storage_class(source) {
+            self.storage_word(specified, source)
+        } else {
+            self.function_modifier(specified, source)
+        }
+    }
+
     #[tactic(auto, unfolding(crate::specs::SpecifierReaders::ordinary_modifier))]
     pub(crate) fn ordinary_modifier(
         &self,
@@ -191,10 +208,8 @@ impl<N: Inside> Grammar<N> {
     {
         if source.is_at_key(KEY_TYPEDEF) {
             self.typedef_word(specified, source)
-        } else if is_at_storage_class(source) {
-            self.storage_word(specified, source)
         } else {
-            self.function_modifier(specified, source)
+            self.definition_modifier(specified, source)
         }
     }
 
@@ -228,6 +243,7 @@ impl<N: Inside> Grammar<N> {
     {
         match place {
             Place::Ordinary => self.ordinary_modifier(specified, source),
+            Place::Definition => self.definition_modifier(specified, source),
             Place::Parameter => self.parameter_modifier(specified, source),
             Place::Member => self.aligned_modifier(specified, source),
             Place::Nameless => self.qualifier_word(specified, source),
