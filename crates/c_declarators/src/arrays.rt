@@ -130,11 +130,7 @@ fn all_pointers(
 
 /// One pointer or more.
 #[tactic(auto, unfolding(crate::specs::DeclaratorReaders::pointers))]
-pub fn pointers(
-    alloc: Global,
-    room: usize,
-    source: &mut Source<'_>,
-) -> Result<Pointing, Stop>
+pub fn pointers(alloc: Global, room: usize, source: &mut Source<'_>) -> Result<Pointing, Stop>
     ensures { Reads (spec.pointers room (input_from source.old)) result
         (input_from source.new) }
 {

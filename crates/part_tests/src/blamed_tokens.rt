@@ -108,7 +108,10 @@ fn declarations_are_read_to_their_semicolon(rt: HostRuntime) -> Result<(), Fail>
         (b"_Static_assert(1, 2);".as_slice(), Err(4)),
         (b"_Static_assert(1);".as_slice(), Err(3)),
         (b"_Static_assert(1, 2, \"s\");".as_slice(), Err(4)),
-        (b"struct S { _Static_assert(1, \"s\"); int x; };".as_slice(), Ok(15)),
+        (
+            b"struct S { _Static_assert(1, \"s\"); int x; };".as_slice(),
+            Ok(15),
+        ),
         (b"void f(int a[static 1]);".as_slice(), Ok(11)),
         (b"void f(int a[static static 1]);".as_slice(), Err(7)),
         (b"void f(int a[const static 1]);".as_slice(), Ok(12)),

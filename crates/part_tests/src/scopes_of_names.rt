@@ -88,12 +88,7 @@ fn what_is_declared_before_decides_what_a_name_is(rt: HostRuntime) -> Result<(),
 #[test]
 fn a_name_of_a_block_hides_a_typedef_name_until_its_end(rt: HostRuntime) -> Result<(), Fail> {
     let mut scopes = Scopes::new(rt.alloc());
-    let got = read_as(
-        rt.alloc(),
-        As::Declaration,
-        b"typedef int T;",
-        &mut scopes,
-    )?;
+    let got = read_as(rt.alloc(), As::Declaration, b"typedef int T;", &mut scopes)?;
     assert_eq!(rt; got, Ok(4));
     scopes.enter()?;
     let got = read_as(rt.alloc(), As::Declaration, b"T T;", &mut scopes)?;
