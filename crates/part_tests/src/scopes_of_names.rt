@@ -44,7 +44,7 @@ fn what_is_declared_before_decides_what_a_name_is(rt: HostRuntime) -> Result<(),
             b"typedef int T;".as_slice(),
             As::TypeName,
             b"int (*)(int T, char (*)[(T)1])".as_slice(),
-            Err(15),
+            Err(16),
         ),
         // Members have names of their own.
         (
@@ -66,7 +66,7 @@ fn what_is_declared_before_decides_what_a_name_is(rt: HostRuntime) -> Result<(),
             b"typedef int T;".as_slice(),
             As::Declaration,
             b"int x = (T)1, T, y = (T)1;".as_slice(),
-            Err(14),
+            Err(15),
         ),
         // What was a typedef name is none behind another declaration of it in the same scope.
         (
