@@ -1,7 +1,7 @@
 //! Where parts end, and which token is blamed: the places where a descent that reads as it goes would
 //! blame another one, behind `typedef int T;`. An `Err` has the number of the first token that offends.
 
-use crate::reading::{As, read_behind};
+use crate::read_parts::{As, read_behind};
 use c_reading::Stop;
 use std::test::Fail;
 

@@ -1,6 +1,6 @@
 //! Levels about 256 in parts that hold one another, and chains of a million links.
 
-use crate::reading::{As, joined, nested, read_behind};
+use crate::read_parts::{As, joined, nested, read_behind};
 use c_reading::Stop;
 use std::test::Fail;
 

@@ -7,6 +7,6 @@ mod blamed_tokens;
 #[cfg(test)]
 mod levels_and_chains;
 #[cfg(test)]
-mod reading;
+mod read_parts;
 #[cfg(test)]
 mod scopes_of_names;

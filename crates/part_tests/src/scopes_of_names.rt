@@ -1,6 +1,6 @@
 //! From where to where a name is a typedef name.
 
-use crate::reading::{As, read_as, read_behind};
+use crate::read_parts::{As, read_as, read_behind};
 use c_reading::Stop;
 use c_tree::Scopes;
 use std::test::Fail;
