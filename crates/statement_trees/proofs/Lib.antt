@@ -1,2 +1,3 @@
 pub mod Scoped
 pub mod FormsSay
+pub mod Chains
