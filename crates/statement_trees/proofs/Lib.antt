@@ -1,3 +1,4 @@
 pub mod Scoped
 pub mod FormsSay
 pub mod Chains
+pub mod FrontRules
