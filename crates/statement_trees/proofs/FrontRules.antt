@@ -33,28 +33,38 @@ use Rattle.c_tree.specs.Statements.{ends_in_if, ends_in_if_level, IsIf, IsLabel,
 use Rattle.c_tree.proofs.Folds as fold
 use Rattle.reading.specs.declared.turn.Turn.{Turn}
 use Rattle.reading.specs.declared.turn.Turn.TheVariants.{Again, Done}
-use Rattle.reading.specs.Languages.{tokens_of}
-use Rattle.reading.specs.Rules.{pure, changes}
+use Rattle.reading.specs.Languages.{Leveled, tokens_of}
+use Rattle.reading.specs.Rules.{◌>>=◌, pure, changes}
+use Rattle.reading.specs.Terminals.{has}
+use Rattle.reading.specs.Readers.{begins}
 use Rattle.c_reading.specs.Kept.{KeptToken}
-use Rattle.c_syntax.specs.Scoping.{Part}
+use Rattle.c_syntax.specs.Scoping.{Part, terminal_of}
 use Rattle.c_stmt.specs.declared.forms.Kinded.{Kinded}
 use Rattle.c_stmt.specs.declared.forms.Ended.{Ended}
 use Rattle.c_stmt.specs.declared.forms.BlockItems.{BlockItems}
-use Rattle.c_stmt.specs.StatementForms.{closed, ended_of, stmt_of, with_label, with_case, with_default, no_items, with_item, block_of}
+use Rattle.c_stmt.specs.declared.forms.Arm.{Arm}
+use Rattle.c_stmt.specs.declared.forms.Arms.{Arms}
+use Rattle.c_stmt.specs.declared.forms.MaybeExpr.{MaybeExpr}
+use Rattle.c_stmt.specs.Choices.{without}
+use Rattle.c_stmt.specs.StatementSets.{a_left_brace, an_if}
+use Rattle.c_stmt.specs.StatementForms.{closed, ended_of, stmt_of, with_label, with_case, with_default, no_items, with_item, block_of, arm_of, first_arms, with_arm, arms_to, without_else, with_else, switch_of, while_of, do_of, maybe_expr, for_head, for_of}
 use Rattle.c_stmt.specs.Below.{Below, Inside}
 use Rattle.c_stmt.specs.StatementRules as lang
 use Rattle.c_stmt.specs.StatementRules.{entering, in_scope}
-use Rattle.expression_trees.specs.Saying.{Said, ◌and◌, token, AreSaid}
+use Rattle.expression_trees.specs.Saying.{Said, ◌and◌, token, AreKnown, FitTokens, AreSaid, AreTrees}
 use Rattle.expression_trees.specs.Trees.{of_expr, of_assign}
 use Rattle.expression_trees.proofs.FormsSay.{each, each_snoc}
 use Rattle.expression_trees.proofs.Lists.{Every, all_of, every_snoc}
-use Rattle.expression_trees.proofs.Front.{Open, Before, Adds, adds_pure, adds_then, adds_or, adds_token, adds_part, adds_looser, adds_same, adds_repeat, by_turn}
+use Rattle.expression_trees.proofs.Front.{Open, Before, Adds, known_cut, adds_pure, adds_then, adds_or, adds_token, adds_part, adds_looser, adds_same, adds_to, adds_repeat, by_turn}
+use Rattle.expression_trees.proofs.Meaning.{adds_of_trees, trees_of_adds}
 use Rattle.expression_trees.proofs.FrontRules.{Made}
 use Rattle.expression_trees.proofs.Tokens.{says_mark, says_key, says_any}
 use Rattle.statement_trees.specs.Trees.{stmt_steps_of, of_declaration, of_stmt, of_kind, of_body, of_block, of_item, of_label, of_for_init}
 use Rattle.statement_trees.specs.Forms.{IsFrom, twice, IsFormedConstant, IsFormedItem, IsFormedEnded}
 use Rattle.statement_trees.proofs.FormsSay as law
-use Rattle.statement_trees.proofs.FormsSay.{opens, closes}
+use Rattle.statement_trees.proofs.FormsSay.{opens, closes, maybe}
+use Rattle.statement_trees.proofs.Scoped.{IsFree, IsShut, wrapped}
+use Rattle.statement_trees.proofs.Chains.{Branch, Steps, Tail, arm_in, arms_done, marks_done, tail_marks, tail_stmt, arms_in, marks_in, if_tree, arm_said, steps_said, tail_said, nested_if}
 
 -- ---- Which statements end in an `if`
 
@@ -76,6 +86,10 @@ ends_is x = fold.stmt_folds ends_steps x
 pub twice_least : (n : ℕ) → n ≤ twice n
 twice_least zero = omega arith
 twice_least (suc n) = omega (arith, twice_least n)
+
+pub from_next : (P : ℕ → Type 0) (n : ℕ) → ((m : ℕ) → n ≤ m → P (suc m)) → (depth : ℕ) → suc n ≤ depth → P depth
+from_next P n p zero h = absurd (omega arith)
+from_next P n p (suc m) h = p m (omega arith)
 
 module _ {A : Type 0} (P : ℕ → A → Type 0) (first depth : ℕ) (h : first ≤ depth) where
   pub every_at : (xs : List A) → Every (IsFrom first P) xs → Every (P depth) xs
@@ -114,9 +128,53 @@ module _ (kind_of : ℕ → Option Kind) (bytes_of : ℕ → List ℕ) where
       ((a : A) (f : Open) → fine a f → good a (λ k. f (closes k))) → Adds kind_of bytes_of (in_scope X) before good
   adds_scope p h = adds_then kind_of bytes_of adds_enter (λ a f same. adds_same kind_of bytes_of same (adds_then kind_of bytes_of p (λ b g r. adds_leave b (h b g r))))
 
+  -- Behind what was said.
+  adds_under : {A : Type 0} {X : Part A} {before : Open} {fine : A → Open → Type 0} → Adds kind_of bytes_of X (λ k. k) fine →
+      Adds kind_of bytes_of X before (λ a f. (g : Open) × fine a g × ((k : Said) → f k ≡ before (g k)))
+  adds_under {before = before} p = record {
+    adds = λ u start scopes w end kn pre x.
+        let l = p.adds [] scopes scopes w end kn (λ k v e f. f) x in (
+          (λ k. before (l.0 k)),
+          (λ k v e f. subst (λ (z : List KeptToken). AreSaid kind_of bytes_of (before (l.0 k)) z start e) (sym (append_assoc u (tokens_of w) v)) (pre (l.0 k) (tokens_of w ++ v) e (l.1 k v e f))),
+          (l.0, l.2, λ k. refl),
+        );
+  }
+
+  -- Words that do not begin so.
+  adds_without : {A : Type 0} {X : Part A} {before : Open} {good : A → Open → Type 0} (set : List ℕ) → Adds kind_of bytes_of X before good → Adds kind_of bytes_of (without terminal_of set X) before good
+  adds_without set p = record { adds = λ u start scopes w end kn pre x. p.adds u start scopes w end kn pre x.0 }
+
+  -- What is said does not begin with a token of the set.
+  abbrev pub NotFirst : List ℕ → Said → Type 0
+  NotFirst set said = (scopes : OpenScopes) × (ts : List KeptToken) × FitTokens kind_of bytes_of said.symbols ts × (begins (λ t. has set (terminal_of scopes t)) ts ≡ false)
+
+  adds_not : {A B : Type 0} {X : Part A} {before : Open} {right : A → Type 0} (said : A → Said) (set : List ℕ) (g : A → B) → AreTrees kind_of bytes_of X right said →
+      Adds kind_of bytes_of (without terminal_of set (X >>= (λ a. pure (g a)))) before
+      (λ b f. (a : A) × (b ≡ g a) × right a × ((k : Said) → f k ≡ before (said a and k)) × NotFirst set (said a))
+  adds_not {X = X} {before = before} {right = right} said set g h = record {
+    adds = λ u start scopes w end kn pre x.
+        let y = x.0 in
+        let k = known_cut kind_of bytes_of y.front y.back (subst (AreKnown kind_of bytes_of) y.split kn) in
+        let t = h scopes y.value.1 y.front y.value.0 k.0 y.begin in
+        let same : w ≡ y.front = y.split ∙ (ap (λ (z : List (Leveled KeptToken)). y.front ++ z) y.rest.none ∙ append-nil y.front) in
+        let p = (adds_under {before = before} (adds_of_trees kind_of bytes_of X right said h)).adds u start scopes y.front y.value k.0 pre y.begin in (
+          p.0,
+          subst (λ (z : List (Leveled KeptToken)). Before kind_of bytes_of p.0 (u ++ tokens_of z) start end.1) (sym same)
+              (subst (Before kind_of bytes_of p.0 (u ++ tokens_of y.front) start) (sym (ap (λ (e : _). e.1) y.rest.same)) p.1),
+          (
+            y.value.0,
+            ap (λ (e : _). e.0) y.rest.same,
+            t.0,
+            (λ k. p.2.2 k ∙ ap before (sym (p.2.1.1 k))),
+            (scopes, tokens_of y.front, t.1.0, subst (λ (z : List (Leveled KeptToken)). begins (λ t. has set (terminal_of scopes t)) (tokens_of z) ≡ false) same x.1),
+          ),
+        );
+  }
+
   -- ---- Parts of statements
 
-  module _ (below : Below) (d level : ℕ) (inner : Inside)
+  module _ (free_expr : (e : Expr) → IsFree (of_expr kind_of bytes_of e).events) (free_stmt : (s : Stmt) → IsFree (of_stmt kind_of bytes_of s).events)
+      (shut_block : (b : Block) → IsShut (of_block kind_of bytes_of b).events) (below : Below) (d level : ℕ) (inner : Inside)
       (expr : (at : ℕ) → Adds kind_of bytes_of (below.expr d at) (λ k. k) (Made kind_of bytes_of (of_expr kind_of bytes_of) (IsFrom d (IsFormedExpr kind_of))))
       (constant : (at : ℕ) → Adds kind_of bytes_of (below.constant d at) (λ k. k) (Made kind_of bytes_of (of_assign kind_of bytes_of) (IsFrom d (IsFormedConstant kind_of bytes_of))))
       (declaration : (at : ℕ) → Adds kind_of bytes_of (below.declaration d at) (λ k. k) (Made kind_of bytes_of (of_declaration kind_of bytes_of) (IsFrom d (IsFormedDeclaration kind_of))))
@@ -194,9 +252,94 @@ module _ (kind_of : ℕ → Option Kind) (bytes_of : ℕ → List ℕ) where
     unfolding lang.block
     adds_block = adds_token kind_of bytes_of (says_mark kind_of bytes_of MARK_LEFT_BRACE) (λ l h. adds_scope (adds_items l) (λ b f g. g))
 
-    adds_braced : Adds kind_of bytes_of (lang.braced below d level inner) (λ k. k) KindIs
+    -- A block as a statement.
+    abbrev BracedIs : Kinded → Open → Type 0
+    BracedIs x f = (b : Block) × (x ≡ closed (kind.Braced b)) × IsBlockFrom b × ((k : Said) → of_kind kind_of bytes_of (kind.Braced b) and k ≡ f k)
+
+    adds_braced_so : Adds kind_of bytes_of (lang.braced below d level inner) (λ k. k) BracedIs
     unfolding lang.braced
-    adds_braced = adds_then kind_of bytes_of adds_block (λ b f m. adds_pure kind_of bytes_of (closed (kind.Braced b)) (
-      (kind_right (s.StmtKind-F.Braced b) _ (kind.rolls-Braced b) (λ depth i. m.0 depth (omega (arith, i))), sym (fold.stmt_kind_braced_folds ends_steps b)),
-      λ k. law.braced_before kind_of bytes_of b k ∙ m.1 k,
+    adds_braced_so = adds_then kind_of bytes_of adds_block (λ b f m. adds_pure kind_of bytes_of (closed (kind.Braced b)) (b, refl, m.0, λ k. law.braced_before kind_of bytes_of b k ∙ m.1 k))
+
+    adds_braced : Adds kind_of bytes_of (lang.braced below d level inner) (λ k. k) KindIs
+    adds_braced = adds_to kind_of bytes_of (λ x f r. (
+      (
+        subst (λ (z : Kinded). IsFrom (suc (twice d)) IsKind z.kind) (sym r.1) (kind_right (s.StmtKind-F.Braced r.0) _ (kind.rolls-Braced r.0) (λ depth i. r.2 depth (omega (arith, i)))),
+        subst (λ (z : Kinded). z.dangles ≡ ends_kind z.kind) (sym r.1) (sym (fold.stmt_kind_braced_folds ends_steps r.0)),
+      ),
+      λ k. ap (λ (z : Kinded). of_kind kind_of bytes_of z.kind and k) r.1 ∙ r.3 k,
+    )) adds_braced_so
+
+    -- ---- Bodies of statements (6.8.4p3, 6.8.5p5)
+
+    abbrev IsBodyFrom : Ended → Type 0
+    IsBodyFrom = IsFrom (suc (twice d)) (IsFormedEnded kind_of bytes_of)
+
+    abbrev BodyIs : Ended → Open → Type 0
+    BodyIs = Made kind_of bytes_of (λ (e : Ended). of_body kind_of bytes_of e.stmt) IsBodyFrom
+
+    stmt_right : (labels : List Mark) (x : StmtKind) (depth : ℕ) → Every (IsLabel kind_of depth) labels → IsKind depth x → IsFormedStmt kind_of (suc depth) (stmt_of labels x)
+    unfolding IsFormedStmt
+    stmt_right labels x depth g h = record { labels = all_of (IsLabel kind_of depth) labels g; kind = h }
+
+    block_body_right : (b : Block) → IsBlockFrom b → IsBodyFrom (ended_of [] (closed (kind.Braced b)))
+    block_body_right b g = from_next (λ depth. IsFormedEnded kind_of bytes_of depth (ended_of [] (closed (kind.Braced b)))) (twice d) (λ m h. (
+      stmt_right [] (kind.Braced b) m tt (subst (IsKind m) (kind.rolls-Braced b) (subst (IsStmtKind kind_of m (IsFormedStmt kind_of m)) (sym (out-roll-StmtKind (s.StmtKind-F.Braced b))) (g m h))),
+      sym (ends_is (stmt_of [] (kind.Braced b)) ∙ fold.stmt_kind_braced_folds ends_steps b),
     ))
+
+    block_stmt_met : (b : Block) → (of_stmt kind_of bytes_of (stmt_of [] (kind.Braced b))).events ≡ (of_block kind_of bytes_of b).events
+    block_stmt_met b = fold.stmt_folds (stmt_steps_of kind_of bytes_of) (stmt_of [] (kind.Braced b)) ∙ fold.stmt_kind_braced_folds (stmt_steps_of kind_of bytes_of) b
+
+    -- Its scope is that of the body too.
+    block_body_says : (b : Block) (k : Said) (ts : List KeptToken) (scopes end : OpenScopes) → AreSaid kind_of bytes_of (of_stmt kind_of bytes_of (stmt_of [] (kind.Braced b)) and k) ts scopes end →
+        AreSaid kind_of bytes_of (of_body kind_of bytes_of (stmt_of [] (kind.Braced b)) and k) ts scopes end
+    block_body_says b k ts scopes end f =
+        let shut = subst IsShut (sym (block_stmt_met b)) (shut_block b) in
+        (f.0, wrapped (of_stmt kind_of bytes_of (stmt_of [] (kind.Braced b))).events shut k.events scopes end f.1)
+
+    adds_braced_body : Adds kind_of bytes_of (lang.braced_body below d level inner) (λ k. k) BodyIs
+    unfolding lang.braced_body
+    adds_braced_body = adds_looser kind_of bytes_of {fine = λ e f. (b : Block) × (e ≡ ended_of [] (closed (kind.Braced b))) × IsBlockFrom b × ((k : Said) → of_kind kind_of bytes_of (kind.Braced b) and k ≡ f k)}
+        (λ e f r. (
+          (λ k. of_body kind_of bytes_of e.stmt and k),
+          (λ k ts scopes end m.
+              subst (λ (z : Ended). AreSaid kind_of bytes_of (of_body kind_of bytes_of z.stmt and k) ts scopes end) (sym r.1) (block_body_says r.0 k ts scopes end
+              (subst (λ (z : Said). AreSaid kind_of bytes_of z ts scopes end) (sym (law.stmt_before kind_of bytes_of (stmt_of [] (kind.Braced r.0)) k ∙ r.3 k)) m))),
+          (subst IsBodyFrom (sym r.1) (block_body_right r.0 r.2), λ k. refl),
+        ))
+        (adds_then kind_of bytes_of adds_braced_so (λ x f r. adds_pure kind_of bytes_of (ended_of [] x) (r.0, ap (ended_of []) r.1, r.2, r.3)))
+
+    adds_unbraced : Adds kind_of bytes_of (lang.unbraced below d level inner) (λ k. k) BodyIs
+    unfolding lang.unbraced
+    adds_unbraced = adds_scope (adds_under statement) (λ e f r. (
+      (λ depth h. r.1.0 depth (omega (arith, h))),
+      λ k. law.body_before kind_of bytes_of e.stmt k ∙ (ap opens (r.1.1 (closes k)) ∙ sym (r.2 (closes k))),
+    ))
+
+    adds_body : Adds kind_of bytes_of (lang.body below d level inner) (λ k. k) BodyIs
+    unfolding lang.body
+    adds_body = adds_or kind_of bytes_of adds_braced_body (adds_without a_left_brace adds_unbraced)
+
+    body_trees : AreTrees kind_of bytes_of (lang.body below d level inner) IsBodyFrom (λ (e : Ended). of_body kind_of bytes_of e.stmt)
+    body_trees = trees_of_adds kind_of bytes_of (λ (e : Ended). of_body kind_of bytes_of e.stmt) adds_body
+
+    -- ---- A condition in parentheses, and its body
+
+    abbrev ArmIs : Arm → Open → Type 0
+    ArmIs x f = IsFrom d (IsFormedExpr kind_of) x.cond × IsBodyFrom x.body ×
+        ((k : Said) → f k ≡ token x.left (want.Mark MARK_LEFT_PAREN) (of_expr kind_of bytes_of x.cond and token x.right (want.Mark MARK_RIGHT_PAREN) (of_body kind_of bytes_of x.body.stmt and k)))
+
+    adds_arm : Adds kind_of bytes_of (lang.arm below d level inner) (λ k. k) ArmIs
+    unfolding lang.arm
+    adds_arm = adds_token kind_of bytes_of (says_mark kind_of bytes_of MARK_LEFT_PAREN) (λ l h. adds_part kind_of bytes_of (expr (suc level)) (λ e f m.
+        adds_token kind_of bytes_of (says_mark kind_of bytes_of MARK_RIGHT_PAREN) (λ r i. adds_part kind_of bytes_of adds_body (λ b g n. adds_pure kind_of bytes_of (arm_of e b l r) (
+          m.0,
+          n.0,
+          λ k. ap (token l (want.Mark MARK_LEFT_PAREN)) (sym (m.1 (token r (want.Mark MARK_RIGHT_PAREN) (g k))) ∙ ap (λ (z : Said). of_expr kind_of bytes_of e and token r (want.Mark MARK_RIGHT_PAREN) z) (sym (n.1 k))),
+        )))))
+
+    body_ends : (e : Ended) → IsBodyFrom e → e.dangles ≡ ends_in_if e.stmt
+    body_ends e g = (g (suc (twice d)) (omega arith)).1
+
+    body_formed : (e : Ended) → IsBodyFrom e → IsFrom (suc (twice d)) (IsFormedStmt kind_of) e.stmt
+    body_formed e g = λ depth h. (g depth h).0
