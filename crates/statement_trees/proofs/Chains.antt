@@ -1,8 +1,8 @@
 -- An `if` with its arms: what it says, where its arms are one scope, and where each is one in the
 -- scope of the one before (C11 6.8.4.1).
 
-use Rattle.std.proofs.Common.{◌≡◌, ℕ, List, [], ◌∷◌, ◌++◌, Option, Some, None, map, refl, sym, ap, ◌∙◌, subst, append_assoc, append-nil}
-use Rattle.std.specs.Option.{option_map}
+use Rattle.std.proofs.Common.{◌≡◌, ◌≢◌, ℕ, ◌+◌, ◌*◌, List, [], ◌∷◌, ◌++◌, Option, Some, None, map, length, refl, sym, ap, ◌∙◌, subst, append_assoc, append-nil, arith}
+use Rattle.std.specs.Option.{option_map, MatchOption}
 use Rattle.c_lexer.specs.declared.token.Kind.{Kind}
 use Rattle.c_lexer.specs.declared.keyword.TheConstants.{KEY_ELSE, KEY_IF}
 use Rattle.c_lexer.specs.declared.mark.TheConstants.{MARK_LEFT_PAREN, MARK_RIGHT_PAREN}
@@ -71,6 +71,44 @@ marks_in ss last tail = marks_done ss ++ (last.key ∷ last.left ∷ last.right 
 abbrev pub if_tree : Steps → Branch → Tail → StmtKind
 if_tree ss last tail = kind.If (arms_in ss last) (tail_stmt tail) (marks_in ss last tail)
 
+-- Each list of arms with its marks is one of these.
+pub by_chain : (Q : List (Expr × Stmt) → Option Stmt → List ℕ → Type 0) → ((ss : Steps) (last : Branch) (tail : Tail) → Q (arms_in ss last) (tail_stmt tail) (marks_in ss last tail)) →
+    (arms : List (Expr × Stmt)) (other : Option Stmt) (marks : List ℕ) → arms ≢ [] → MatchOption other (1 + length marks ≡ 4 * length arms) (λ stmt. length marks ≡ 4 * length arms) → Q arms other marks
+by_chain Q q [] other marks h e = absurd (h refl)
+by_chain Q q (a ∷ []) None [] h e = absurd (omega arith)
+by_chain Q q (a ∷ []) None (k ∷ []) h e = absurd (omega arith)
+by_chain Q q (a ∷ []) None (k ∷ l ∷ []) h e = absurd (omega arith)
+by_chain Q q (a ∷ []) None (k ∷ l ∷ r ∷ []) h e = q [] (record { cond = a.0; body = a.1; key = k; left = l; right = r }) None
+by_chain Q q (a ∷ []) None (k ∷ l ∷ r ∷ m ∷ marks) h e = absurd (omega arith)
+by_chain Q q (a ∷ []) (Some o) [] h e = absurd (omega arith)
+by_chain Q q (a ∷ []) (Some o) (k ∷ []) h e = absurd (omega arith)
+by_chain Q q (a ∷ []) (Some o) (k ∷ l ∷ []) h e = absurd (omega arith)
+by_chain Q q (a ∷ []) (Some o) (k ∷ l ∷ r ∷ []) h e = absurd (omega arith)
+by_chain Q q (a ∷ []) (Some o) (k ∷ l ∷ r ∷ m ∷ []) h e = q [] (record { cond = a.0; body = a.1; key = k; left = l; right = r }) (Some (m, o))
+by_chain Q q (a ∷ []) (Some o) (k ∷ l ∷ r ∷ m ∷ n ∷ marks) h e = absurd (omega arith)
+by_chain Q q (a ∷ b ∷ arms) None [] h e = absurd (omega arith)
+by_chain Q q (a ∷ b ∷ arms) None (k ∷ []) h e = absurd (omega arith)
+by_chain Q q (a ∷ b ∷ arms) None (k ∷ l ∷ []) h e = absurd (omega arith)
+by_chain Q q (a ∷ b ∷ arms) None (k ∷ l ∷ r ∷ []) h e = absurd (omega arith)
+by_chain Q q (a ∷ b ∷ arms) None (k ∷ l ∷ r ∷ m ∷ marks) h e =
+    by_chain (λ bs o ms. Q (a ∷ bs) o (k ∷ l ∷ r ∷ m ∷ ms)) (λ ss last tail. q ((record { cond = a.0; body = a.1; key = k; left = l; right = r }, m) ∷ ss) last tail) (b ∷ arms) None marks
+    (λ f. absurd (cc)) (omega (arith, e))
+by_chain Q q (a ∷ b ∷ arms) (Some o) [] h e = absurd (omega arith)
+by_chain Q q (a ∷ b ∷ arms) (Some o) (k ∷ []) h e = absurd (omega arith)
+by_chain Q q (a ∷ b ∷ arms) (Some o) (k ∷ l ∷ []) h e = absurd (omega arith)
+by_chain Q q (a ∷ b ∷ arms) (Some o) (k ∷ l ∷ r ∷ []) h e = absurd (omega arith)
+by_chain Q q (a ∷ b ∷ arms) (Some o) (k ∷ l ∷ r ∷ m ∷ marks) h e =
+    by_chain (λ bs x ms. Q (a ∷ bs) x (k ∷ l ∷ r ∷ m ∷ ms)) (λ ss last tail. q ((record { cond = a.0; body = a.1; key = k; left = l; right = r }, m) ∷ ss) last tail) (b ∷ arms) (Some o) marks
+    (λ f. absurd (cc)) (omega (arith, e))
+
+pub arms_snoc : (ss : Steps) (x : Branch × ℕ) → arms_done (ss ++ x ∷ []) ≡ arms_in ss x.0
+arms_snoc [] x = refl
+arms_snoc (s ∷ ss) x = ap (λ (z : List (Expr × Stmt)). arm_in s.0 ∷ z) (arms_snoc ss x)
+
+pub marks_snoc : (ss : Steps) (x : Branch × ℕ) (m : ℕ) → marks_done (ss ++ x ∷ []) ++ m ∷ [] ≡ ((marks_done ss ++ x.0.key ∷ []) ++ x.0.left ∷ x.0.right ∷ []) ++ x.1 ∷ m ∷ []
+marks_snoc [] x m = refl
+marks_snoc (s ∷ ss) x m = ap (λ (z : List ℕ). s.0.key ∷ s.0.left ∷ s.0.right ∷ s.1 ∷ z) (marks_snoc ss x m)
+
 module _ (kind_of : ℕ → Option Kind) (bytes_of : ℕ → List ℕ) where
   abbrev pub arm_said : Branch → Said → Said
   arm_said b k = token b.key (want.Key KEY_IF) (token b.left (want.Mark MARK_LEFT_PAREN) (of_expr kind_of bytes_of b.cond and token b.right (want.Mark MARK_RIGHT_PAREN) (of_body kind_of bytes_of b.body and k)))
@@ -82,6 +120,10 @@ module _ (kind_of : ℕ → Option Kind) (bytes_of : ℕ → List ℕ) where
   abbrev pub tail_said : Tail → Said → Said
   tail_said None k = k
   tail_said (Some t) k = token t.0 (want.Key KEY_ELSE) (of_body kind_of bytes_of t.1 and k)
+
+  pub steps_snoc : (ss : Steps) (x : Branch × ℕ) (k : Said) → steps_said (ss ++ x ∷ []) k ≡ steps_said ss (arm_said x.0 (token x.1 (want.Key KEY_ELSE) k))
+  steps_snoc [] x k = refl
+  steps_snoc (s ∷ ss) x k = ap (λ (z : Said). arm_said s.0 (token s.1 (want.Key KEY_ELSE) z)) (steps_snoc ss x k)
 
   -- ---- Symbols
 
@@ -126,6 +168,11 @@ module _ (kind_of : ℕ → Option Kind) (bytes_of : ℕ → List ℕ) where
   if_spelled : (ss : Steps) (last : Branch) (tail : Tail) (k : Said) →
       stmt_kind_spelling (if_tree ss last tail) ++ k.symbols ≡ (steps_said ss (arm_said last (tail_said tail k))).symbols
   if_spelled ss last tail k = ap (λ (z : Symbols). z ++ k.symbols) (spell.stmt_kind_if_spelling_lem (arms_in ss last) (tail_stmt tail) (marks_in ss last tail)) ∙ arms_spelled ss last tail k
+
+  -- It begins with `if`.
+  pub if_begins : (ss : Steps) (last : Branch) (tail : Tail) → (n : ℕ) × (rest : Symbols) × (stmt_kind_spelling (if_tree ss last tail) ≡ record { token = n; want = want.Key KEY_IF } ∷ rest)
+  if_begins [] last tail = (last.key, _, sym (append-nil _) ∙ if_spelled [] last tail nothing)
+  if_begins (s ∷ ss) last tail = (s.0.key, _, sym (append-nil _) ∙ if_spelled (s ∷ ss) last tail nothing)
 
   -- ---- Names
 

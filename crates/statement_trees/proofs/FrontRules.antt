@@ -1,8 +1,9 @@
 -- What the words of the rules of statements are: well-formed trees that say their tokens. One term
 -- a rule.
 
-use Rattle.std.proofs.Common.{◌≡◌, ◌≢◌, ◌⊎◌, inl, inr, ℕ, zero, suc, ◌+◌, ◌*◌, ◌≤◌, Bool, true, false, List, [], ◌∷◌, ◌++◌, Option, Some, None, length, refl, sym, ap, ◌∙◌, subst, append_assoc, append-nil, arith}
+use Rattle.std.proofs.Common.{◌≡◌, ◌≢◌, ◌⊎◌, inl, inr, ℕ, zero, suc, ◌+◌, ◌*◌, ◌≤◌, Bool, true, false, List, [], ◌∷◌, ◌++◌, Option, Some, None, map, length, refl, sym, ap, ◌∙◌, subst, append_assoc, append-nil, arith}
 use Rattle.std.specs.Prelude.{All, IsSome, IfSome}
+use Rattle.std.specs.Option.{MatchOption}
 use Rattle.c_lexer.specs.declared.token.Kind.{Kind}
 use Rattle.c_lexer.specs.declared.keyword.TheConstants.{KEY_BREAK, KEY_CASE, KEY_CONTINUE}
 use Rattle.c_lexer.specs.declared.keyword.TheConstants.{KEY_DEFAULT, KEY_DO, KEY_ELSE, KEY_FOR}
@@ -21,21 +22,24 @@ use Rattle.c_tree.specs.declared.tree.BlockItem.{BlockItem, roll-BlockItem, out-
 use Rattle.c_tree.specs.declared.tree.BlockItem.TheOpen as s
 use Rattle.c_tree.specs.declared.tree.BlockItem.TheVariants as item_
 use Rattle.c_tree.specs.declared.tree.Stmt.{Stmt}
-use Rattle.c_tree.specs.declared.tree.StmtKind.{StmtKind, roll-StmtKind, out-StmtKind, out-roll-StmtKind}
+use Rattle.c_tree.specs.declared.tree.StmtKind.{StmtKind, roll-StmtKind, out-StmtKind, out-roll-StmtKind, roll-out-StmtKind}
 use Rattle.c_tree.specs.declared.tree.StmtKind.TheVariants as kind
 use Rattle.c_tree.specs.declared.tree.Mark.{Mark}
 use Rattle.c_tree.specs.declared.tree.Mark.TheVariants as mark_
 use Rattle.c_tree.specs.declared.tree.ForInit.{ForInit}
 use Rattle.c_tree.specs.declared.tree.ForInit.TheVariants as init_
-use Rattle.c_tree.specs.Folds.{StmtSteps, OpenStmtKind, OpenBlockItem, stmt_kind_fold, block_fold}
+use Rattle.c_tree.specs.Folds.{StmtSteps, OpenStmtKind, OpenBlockItem, stmt_fold, stmt_kind_fold, block_fold}
 use Rattle.c_tree.specs.Depths.{IsFormedExpr, IsFormedDeclaration}
-use Rattle.c_tree.specs.Statements.{ends_in_if, ends_in_if_level, IsIf, IsLabel, IsForInit, IsBlock, IsIfStatement, IsStmtKind, IsStmt, IsFormedStmt, IsFormedBlock}
+use Rattle.c_tree.specs.Statements.{ends_in_if, ends_in_if_level, IsIf, IsIfKind, IsLabel, IsForInit, IsBlock, IsIfStatement, IsStmtKind, IsStmt, IsFormedStmt, IsFormedBlock}
+use Rattle.c_tree.specs.Spell.{joined, stmt_spelling, stmt_kind_spelling, label_spelling}
 use Rattle.c_tree.proofs.Folds as fold
+use Rattle.c_tree.proofs.Spellings as spell
 use Rattle.reading.specs.declared.turn.Turn.{Turn}
 use Rattle.reading.specs.declared.turn.Turn.TheVariants.{Again, Done}
 use Rattle.reading.specs.Languages.{Leveled, tokens_of}
 use Rattle.reading.specs.Rules.{◌>>=◌, pure, changes}
 use Rattle.reading.specs.Terminals.{has}
+use Rattle.reading.proofs.Sets.{never}
 use Rattle.reading.specs.Readers.{begins}
 use Rattle.c_reading.specs.Kept.{KeptToken}
 use Rattle.c_syntax.specs.Scoping.{Part, terminal_of}
@@ -58,13 +62,13 @@ use Rattle.expression_trees.proofs.Lists.{Every, all_of, every_snoc}
 use Rattle.expression_trees.proofs.Front.{Open, Before, Adds, known_cut, adds_pure, adds_then, adds_or, adds_token, adds_part, adds_looser, adds_same, adds_to, adds_repeat, by_turn}
 use Rattle.expression_trees.proofs.Meaning.{adds_of_trees, trees_of_adds}
 use Rattle.expression_trees.proofs.FrontRules.{Made}
-use Rattle.expression_trees.proofs.Tokens.{says_mark, says_key, says_any}
+use Rattle.expression_trees.proofs.Tokens.{says_mark, says_key, says_any, hears_key}
 use Rattle.statement_trees.specs.Trees.{stmt_steps_of, of_declaration, of_stmt, of_kind, of_body, of_block, of_item, of_label, of_for_init}
 use Rattle.statement_trees.specs.Forms.{IsFrom, twice, IsFormedConstant, IsFormedItem, IsFormedEnded}
 use Rattle.statement_trees.proofs.FormsSay as law
 use Rattle.statement_trees.proofs.FormsSay.{opens, closes, maybe}
 use Rattle.statement_trees.proofs.Scoped.{IsFree, IsShut, wrapped}
-use Rattle.statement_trees.proofs.Chains.{Branch, Steps, Tail, arm_in, arms_done, marks_done, tail_marks, tail_stmt, arms_in, marks_in, if_tree, arm_said, steps_said, tail_said, nested_if}
+use Rattle.statement_trees.proofs.Chains.{Branch, Steps, Tail, arm_in, arms_done, marks_done, tail_marks, tail_stmt, arms_in, marks_in, if_tree, arm_said, steps_said, tail_said, arms_snoc, marks_snoc, steps_snoc, by_chain, if_begins, nested_if}
 
 -- ---- Which statements end in an `if`
 
@@ -90,6 +94,48 @@ twice_least (suc n) = omega (arith, twice_least n)
 pub from_next : (P : ℕ → Type 0) (n : ℕ) → ((m : ℕ) → n ≤ m → P (suc m)) → (depth : ℕ) → suc n ≤ depth → P depth
 from_next P n p zero h = absurd (omega arith)
 from_next P n p (suc m) h = p m (omega arith)
+
+pub ends_stmt : (x : Stmt) → ends_in_if x ≡ stmt_fold ends_steps x
+unfolding ends_in_if
+ends_stmt x = refl
+
+-- ---- What is asked of an `if`
+
+-- Each is closed, and so is the last where an `else` stands behind it.
+pub arms_closed : (ss : Steps) (last : Branch) (other : Option Stmt) → Every (λ (x : Branch × ℕ). ends_in_if x.0.body ≡ false) ss → (IsSome other → ends_in_if last.body ≡ false) →
+    (before after : List (Expr × Stmt)) (condition : Expr) (body : Stmt) → arms_in ss last ≡ before ++ (condition, body) ∷ after → (after ≢ []) ⊎ IsSome other → ends_in_if body ≡ false
+arms_closed [] last other g h [] [] c b e (inl i) = absurd (i refl)
+arms_closed [] last other g h [] [] c b e (inr i) = subst (λ z. ends_in_if z ≡ false) (let f : arm_in last ≡ (c, b) = cc in ap (λ (z : Expr × Stmt). z.1) f) (h i)
+arms_closed [] last other g h [] (a ∷ after) c b e i = absurd (let f : [] ≡ a ∷ after = cc in cc)
+arms_closed [] last other g h (x ∷ []) after c b e i = absurd (let f : [] ≡ (c, b) ∷ after = cc in cc)
+arms_closed [] last other g h (x ∷ y ∷ before) after c b e i = absurd (let f : [] ≡ y ∷ (before ++ (c, b) ∷ after) = cc in cc)
+arms_closed (s ∷ ss) last other g h [] after c b e i = subst (λ z. ends_in_if z ≡ false) (let f : arm_in s.0 ≡ (c, b) = cc in ap (λ (z : Expr × Stmt). z.1) f) g.0
+arms_closed (s ∷ ss) last other g h (x ∷ before) after c b e i = arms_closed ss last other g.1 h before after c b (let f : arms_in ss last ≡ before ++ (c, b) ∷ after = cc in f) i
+
+pub arms_some : (ss : Steps) (last : Branch) → arms_in ss last ≢ []
+arms_some [] last e = absurd (let f : arm_in last ∷ [] ≡ [] = e in cc)
+arms_some (s ∷ ss) last e = absurd (let f : arm_in s.0 ∷ arms_in ss last ≡ [] = e in cc)
+
+marks_none : (ss : Steps) (last : Branch) → 1 + length (marks_in ss last None) ≡ 4 * length (arms_in ss last)
+marks_none [] last = refl
+marks_none (s ∷ ss) last = omega (arith, marks_none ss last)
+
+marks_some : (ss : Steps) (last : Branch) (t : ℕ × Stmt) → length (marks_in ss last (Some t)) ≡ 4 * length (arms_in ss last)
+marks_some [] last t = refl
+marks_some (s ∷ ss) last t = omega (arith, marks_some ss last t)
+
+pub marks_fixed : (ss : Steps) (last : Branch) (tail : Tail) →
+    MatchOption (tail_stmt tail) (1 + length (marks_in ss last tail) ≡ 4 * length (arms_in ss last)) (λ stmt. length (marks_in ss last tail) ≡ 4 * length (arms_in ss last))
+marks_fixed ss last None = marks_none ss last
+marks_fixed ss last (Some t) = marks_some ss last t
+
+pub every_arm : (P : Expr × Stmt → Type 0) (ss : Steps) (last : Branch) → Every (λ (x : Branch × ℕ). P (arm_in x.0)) ss → P (arm_in last) → Every P (arms_in ss last)
+every_arm P [] last g h = (h, tt)
+every_arm P (s ∷ ss) last g h = (g.0, every_arm P ss last g.1 h)
+
+pub every_of_each : {A : Type 0} (P Q : A → Type 0) → ((a : A) → P a → Q a) → (xs : List A) → Every P xs → Every Q xs
+every_of_each P Q f [] g = tt
+every_of_each P Q f (x ∷ xs) g = (f x g.0, every_of_each P Q f xs g.1)
 
 module _ {A : Type 0} (P : ℕ → A → Type 0) (first depth : ℕ) (h : first ≤ depth) where
   pub every_at : (xs : List A) → Every (IsFrom first P) xs → Every (P depth) xs
@@ -343,3 +389,172 @@ module _ (kind_of : ℕ → Option Kind) (bytes_of : ℕ → List ℕ) where
 
     body_formed : (e : Ended) → IsBodyFrom e → IsFrom (suc (twice d)) (IsFormedStmt kind_of) e.stmt
     body_formed e g = λ depth h. (g depth h).0
+
+    -- ---- `if` (6.8.4.1)
+
+    abbrev IsBranch : Branch → Type 0
+    IsBranch b = IsFrom d (IsFormedExpr kind_of) b.cond × IsFrom (suc (twice d)) (IsFormedStmt kind_of) b.body
+
+    -- With an `else` behind it.
+    abbrev IsStep : Branch × ℕ → Type 0
+    IsStep x = IsBranch x.0 × (ends_in_if x.0.body ≡ false)
+
+    -- Up to the next `if`.
+    abbrev ArmsAre : Arms → Open → Type 0
+    ArmsAre x f = (ss : Steps) × (key : ℕ) × (x.list ≡ arms_done ss) × (x.marks ≡ marks_done ss ++ key ∷ []) × Every IsStep ss ×
+        ((k : Said) → f k ≡ opens (steps_said kind_of bytes_of ss (token key (want.Key KEY_IF) k)))
+
+    abbrev IsTail : Branch → Tail → Type 0
+    IsTail last None = Prim.Unit {0}
+    IsTail last (Some t) = (ends_in_if last.body ≡ false) × IsFrom (suc (twice d)) (IsFormedStmt kind_of) t.1 × (IsIf t.1 → ⊥)
+
+    -- Before its scope ends.
+    abbrev IfInside : Kinded → Open → Type 0
+    IfInside x f = (ss : Steps) × (last : Branch) × (tail : Tail) × (x.kind ≡ if_tree ss last tail) × (x.dangles ≡ ends_kind x.kind) × Every IsStep ss × IsBranch last × IsTail last tail ×
+        ((k : Said) → f k ≡ opens (steps_said kind_of bytes_of ss (arm_said kind_of bytes_of last (tail_said kind_of bytes_of tail k))))
+
+    if_statement : (ss : Steps) (last : Branch) (tail : Tail) → Every IsStep ss → IsBranch last → IsTail last tail → (depth : ℕ) → suc (twice d) ≤ depth →
+        IsIfStatement kind_of depth (IsFormedStmt kind_of depth) (arms_in ss last) (tail_stmt tail) (marks_in ss last tail)
+    if_statement ss last tail g b t depth h = record {
+      some = arms_some ss last;
+      conditions = all_of (λ (arm : Expr × Stmt). IsFormedExpr kind_of depth arm.0) (arms_in ss last)
+          (every_arm (λ (arm : Expr × Stmt). IsFormedExpr kind_of depth arm.0) ss last (every_of_each IsStep (λ (x : Branch × ℕ). IsFormedExpr kind_of depth x.0.cond) (λ x i. i.0.0 depth (deep depth h)) ss g) (b.0 depth (deep depth h)));
+      bodies = all_of (λ (arm : Expr × Stmt). IsFormedStmt kind_of depth arm.1) (arms_in ss last)
+          (every_arm (λ (arm : Expr × Stmt). IsFormedStmt kind_of depth arm.1) ss last (every_of_each IsStep (λ (x : Branch × ℕ). IsFormedStmt kind_of depth x.0.body) (λ x i. i.0.1 depth h) ss g) (b.1 depth h));
+      otherwise = other_is tail t;
+      fixed = marks_fixed ss last tail;
+      closed = arms_closed ss last (tail_stmt tail) (every_of_each IsStep (λ (x : Branch × ℕ). ends_in_if x.0.body ≡ false) (λ x i. i.1) ss g) (last_is tail t);
+    }
+      where
+        other_is : (tail : Tail) → IsTail last tail → IfSome (tail_stmt tail) (λ stmt. IsFormedStmt kind_of depth stmt × ¬ IsIf stmt)
+        other_is None t = tt
+        other_is (Some x) t = (t.1 depth h, t.2)
+
+        last_is : (tail : Tail) → IsTail last tail → IsSome (tail_stmt tail) → ends_in_if last.body ≡ false
+        last_is None t i = never i
+        last_is (Some x) t i = t.0
+
+    abbrev branch_of : Arm → ℕ → Branch
+    branch_of x key = record { cond = x.cond; body = x.body.stmt; key = key; left = x.left; right = x.right }
+
+    -- With one arm more, behind which nothing stands.
+    ended_without : (arms : Arms) (x : Arm) (f g : Open) → ArmsAre arms f → ArmIs x g → IfInside (without_else (with_arm arms x)) (λ k. f (g k))
+    ended_without arms x f g r a =
+        let last = branch_of x r.1 in
+        let marks : arms.marks ++ x.left ∷ x.right ∷ [] ≡ marks_in r.0 last None = ap (λ (z : List ℕ). z ++ x.left ∷ x.right ∷ []) r.3 ∙ append_assoc (marks_done r.0) (r.1 ∷ []) (x.left ∷ x.right ∷ []) in (
+          r.0,
+          last,
+          None,
+          ap (λ (z : List (Expr × Stmt)). kind.If (z ++ arm_in last ∷ []) None (arms.marks ++ x.left ∷ x.right ∷ [])) r.2 ∙ ap (λ (z : List ℕ). kind.If (arms_in r.0 last) None z) marks,
+          sym (fold.stmt_kind_if_folds ends_steps (arms.list ++ arm_in last ∷ []) None (arms.marks ++ x.left ∷ x.right ∷ [])),
+          r.4,
+          (a.0, body_formed x.body a.1),
+          tt,
+          λ k. r.5 (g k) ∙ ap (λ (z : Said). opens (steps_said kind_of bytes_of r.0 (token r.1 (want.Key KEY_IF) z))) (a.2 k),
+        )
+
+    -- With `else` and `if` behind it.
+    another_arm : (arms : Arms) (x : Arm) (f g : Open) → ArmsAre arms f → ArmIs x g → ends_in_if x.body.stmt ≡ false → (e key : ℕ) →
+        ArmsAre (arms_to (with_arm arms x) (e ∷ key ∷ [])) (λ k. f (g (token e (want.Key KEY_ELSE) (token key (want.Key KEY_IF) k))))
+    another_arm arms x f g r a c e key =
+        let last = branch_of x r.1 in (
+          r.0 ++ (last, e) ∷ [],
+          key,
+          ap (λ (z : List (Expr × Stmt)). z ++ arm_in last ∷ []) r.2 ∙ sym (arms_snoc r.0 (last, e)),
+          ap (λ (z : List ℕ). (z ++ x.left ∷ x.right ∷ []) ++ e ∷ key ∷ []) r.3 ∙ sym (marks_snoc r.0 (last, e) key),
+          every_snoc IsStep r.0 (last, e) r.4 ((a.0, body_formed x.body a.1), c),
+          λ k. let rest = token e (want.Key KEY_ELSE) (token key (want.Key KEY_IF) k) in
+              r.5 (g rest) ∙ (ap (λ (z : Said). opens (steps_said kind_of bytes_of r.0 (token r.1 (want.Key KEY_IF) z))) (a.2 rest) ∙
+              ap opens (sym (steps_snoc kind_of bytes_of r.0 (last, e) (token key (want.Key KEY_IF) k)))),
+        )
+
+    -- With `else` and another statement behind it.
+    ended_with : (arms : Arms) (x : Arm) (f g : Open) → ArmsAre arms f → ArmIs x g → ends_in_if x.body.stmt ≡ false → (e : ℕ) (o : Ended) → IsBodyFrom o → (IsIf o.stmt → ⊥) →
+        IfInside (with_else (with_arm arms x) e o) (λ k. f (g (token e (want.Key KEY_ELSE) (of_body kind_of bytes_of o.stmt and k))))
+    ended_with arms x f g r a c e o h i =
+        let last = branch_of x r.1 in
+        let all : List ℕ = (arms.marks ++ x.left ∷ x.right ∷ []) ++ e ∷ [] in
+        let marks : all ≡ marks_in r.0 last (Some (e, o.stmt)) =
+        ap (λ (z : List ℕ). (z ++ x.left ∷ x.right ∷ []) ++ e ∷ []) r.3 ∙ (append_assoc (marks_done r.0 ++ r.1 ∷ []) (x.left ∷ x.right ∷ []) (e ∷ []) ∙ append_assoc (marks_done r.0) (r.1 ∷ []) (x.left ∷ x.right ∷ e ∷ [])) in (
+          r.0,
+          last,
+          Some (e, o.stmt),
+          ap (λ (z : List (Expr × Stmt)). kind.If (z ++ arm_in last ∷ []) (Some o.stmt) all) r.2 ∙ ap (λ (z : List ℕ). kind.If (arms_in r.0 last) (Some o.stmt) z) marks,
+          body_ends o h ∙ (ends_stmt o.stmt ∙ sym (fold.stmt_kind_if_folds ends_steps (arms.list ++ arm_in last ∷ []) (Some o.stmt) all)),
+          r.4,
+          (a.0, body_formed x.body a.1),
+          (c, body_formed o h, i),
+          λ k. let rest = token e (want.Key KEY_ELSE) (of_body kind_of bytes_of o.stmt and k) in
+              r.5 (g rest) ∙ ap (λ (z : Said). opens (steps_said kind_of bytes_of r.0 (token r.1 (want.Key KEY_IF) z))) (a.2 rest),
+        )
+
+    -- An `if` without labels begins with `if`.
+    not_if_kind : (x : OpenStmtKind) → IsStmtKind kind_of (suc (twice d)) (IsFormedStmt kind_of (suc (twice d))) x → (scopes : OpenScopes) (ts : List KeptToken) →
+        FitTokens kind_of bytes_of (stmt_kind_spelling (roll-StmtKind x)) ts → begins (λ t. has an_if (terminal_of scopes t)) ts ≡ false → IsIfKind x → ⊥
+    not_if_kind (s.StmtKind-F.Empty m) g scopes ts f e i = i
+    not_if_kind (s.StmtKind-F.Value x m) g scopes ts f e i = i
+    not_if_kind (s.StmtKind-F.Braced b) g scopes ts f e i = i
+    not_if_kind (s.StmtKind-F.If arms other marks) g scopes ts f e i =
+        by_chain (λ bs o ms. FitTokens kind_of bytes_of (stmt_kind_spelling (kind.If bs o ms)) ts → ⊥)
+        (λ ss last tail h.
+        let b = if_begins kind_of bytes_of ss last tail in
+        let y = (hears_key kind_of bytes_of KEY_IF b.0).hears scopes scopes (record { symbols = b.1; events = [] }) ts (subst (λ z. FitTokens kind_of bytes_of z ts) b.2 h, refl) in
+        never (sym e ∙ (ap (begins (λ t. has an_if (terminal_of scopes t))) y.2 ∙ y.4)))
+        arms other marks g.some g.fixed (subst (λ z. FitTokens kind_of bytes_of (stmt_kind_spelling z) ts) (kind.rolls-If arms other marks) f)
+    not_if_kind (s.StmtKind-F.While x b m) g scopes ts f e i = i
+    not_if_kind (s.StmtKind-F.DoWhile b x m) g scopes ts f e i = i
+    not_if_kind (s.StmtKind-F.For a b c x m) g scopes ts f e i = i
+    not_if_kind (s.StmtKind-F.Switch x b m) g scopes ts f e i = i
+    not_if_kind (s.StmtKind-F.Break m) g scopes ts f e i = i
+    not_if_kind (s.StmtKind-F.Continue m) g scopes ts f e i = i
+    not_if_kind (s.StmtKind-F.Goto x m) g scopes ts f e i = i
+    not_if_kind (s.StmtKind-F.Return x m) g scopes ts f e i = i
+
+    formed_kind : (x : Stmt) → IsFrom (suc (twice d)) (IsFormedStmt kind_of) x → IsKind (suc (twice d)) x.kind
+    unfolding IsFormedStmt
+    formed_kind x g = (g (suc (suc (twice d))) (omega arith)).kind
+
+    not_if : (o : Ended) → IsBodyFrom o → NotFirst an_if (of_body kind_of bytes_of o.stmt) → IsIf o.stmt → ⊥
+    not_if o g n i =
+        let out = roll-out-StmtKind o.stmt.kind in
+        let spelled : stmt_spelling o.stmt ≡ stmt_kind_spelling o.stmt.kind = spell.stmt_spelling_lem o.stmt ∙ ap (λ (z : List Mark). joined (map label_spelling z) ++ stmt_kind_spelling o.stmt.kind) i.0 in
+        not_if_kind (out-StmtKind o.stmt.kind) (formed_kind o.stmt (body_formed o g)) n.0 n.1
+        (subst (λ z. FitTokens kind_of bytes_of (stmt_kind_spelling z) n.1) (sym out) (subst (λ z. FitTokens kind_of bytes_of z n.1) spelled n.2)) n.3 i.1
+
+    adds_behind : (b : Bool) (arms : Arms) (x : Arm) (f g : Open) → b ≡ ends_in_if x.body.stmt → ArmsAre arms f → ArmIs x g →
+        Adds kind_of bytes_of (lang.behind_arm below d level inner b (with_arm arms x)) (λ k. f (g k)) (by_turn kind_of bytes_of ArmsAre IfInside)
+    unfolding lang.else_part lang.next_arm lang.last_body
+    adds_behind true arms x f g e r a = adds_pure kind_of bytes_of (Done (without_else (with_arm arms x))) (ended_without arms x f g r a)
+    adds_behind false arms x f g c r a = adds_or kind_of bytes_of
+        (adds_token kind_of bytes_of (says_key kind_of bytes_of KEY_ELSE) (λ e h. adds_or kind_of bytes_of
+        (adds_token kind_of bytes_of (says_key kind_of bytes_of KEY_IF) (λ key i. adds_pure kind_of bytes_of (Again (arms_to (with_arm arms x) (e ∷ key ∷ []))) (another_arm arms x f g r a (sym c) e key)))
+        (adds_to kind_of bytes_of {fine = λ t h. (o : Ended) × (t ≡ Done (with_else (with_arm arms x) e o)) × IsBodyFrom o × ((k : Said) → h k ≡ f (g (token e (want.Key KEY_ELSE) (of_body kind_of bytes_of o.stmt and k)))) × NotFirst an_if (of_body kind_of bytes_of o.stmt)}
+        (λ t h y. subst (λ z. by_turn kind_of bytes_of ArmsAre IfInside z h) (sym y.1)
+            (let w = ended_with arms x f g r a (sym c) e y.0 y.2 (not_if y.0 y.2 y.4) in (w.0, w.1, w.2, w.3, w.4, w.5, w.6, w.7, λ k. y.3 k ∙ w.8 k)))
+        (adds_not (λ (o : Ended). of_body kind_of bytes_of o.stmt) an_if (λ o. Done (with_else (with_arm arms x) e o)) body_trees))))
+        (adds_pure kind_of bytes_of (Done (without_else (with_arm arms x))) (ended_without arms x f g r a))
+
+    adds_arms : (key : ℕ) → Adds kind_of bytes_of (lang.all_arms below d level inner (first_arms key)) (λ k. token key (want.Key KEY_IF) (opens k)) IfInside
+    unfolding lang.all_arms lang.arm_turn
+    adds_arms key = adds_repeat kind_of bytes_of d {fine = ArmsAre}
+        (λ arms f r. adds_part kind_of bytes_of adds_arm (λ x g a. adds_behind x.body.dangles arms x f g (body_ends x.body a.1) r a))
+        (first_arms key) ([], key, refl, refl, tt, λ k. refl)
+
+    adds_if : Adds kind_of bytes_of (lang.if_ below d level inner) (λ k. k) KindIs
+    unfolding lang.if_
+    adds_if = adds_looser kind_of bytes_of {fine = λ x f. (ss : Steps) × (last : Branch) × (tail : Tail) × (x.kind ≡ if_tree ss last tail) × (x.dangles ≡ ends_kind x.kind) × Every IsStep ss × IsBranch last × IsTail last tail ×
+          ((k : Said) → f k ≡ opens (steps_said kind_of bytes_of ss (arm_said kind_of bytes_of last (tail_said kind_of bytes_of tail (closes k)))))}
+        (λ x f r. (
+          (λ k. of_kind kind_of bytes_of x.kind and k),
+          (λ k ts scopes end m. subst (λ z. AreSaid kind_of bytes_of (of_kind kind_of bytes_of z and k) ts scopes end) (sym r.3)
+              (nested_if kind_of bytes_of free_expr free_stmt r.0 r.1 r.2 k ts scopes end (subst (λ (z : Said). AreSaid kind_of bytes_of z ts scopes end) (r.8 k) m))),
+          (
+            (
+              subst (IsFrom (suc (twice d)) IsKind) (sym r.3) (kind_right (s.StmtKind-F.If (arms_in r.0 r.1) (tail_stmt r.2) (marks_in r.0 r.1 r.2)) _
+                  (kind.rolls-If (arms_in r.0 r.1) (tail_stmt r.2) (marks_in r.0 r.1 r.2)) (if_statement r.0 r.1 r.2 r.5 r.6 r.7)),
+              r.4,
+            ),
+            λ k. refl,
+          ),
+        ))
+        (adds_token kind_of bytes_of (says_key kind_of bytes_of KEY_IF) (λ key h. adds_scope (adds_arms key) (λ x f r. (r.0, r.1, r.2, r.3, r.4, r.5, r.6, r.7, λ k. r.8 (closes k)))))
