@@ -29,8 +29,9 @@ use Rattle.c_tree.specs.declared.tree.Mark.TheVariants as mark_
 use Rattle.c_tree.specs.declared.tree.ForInit.{ForInit}
 use Rattle.c_tree.specs.declared.tree.ForInit.TheVariants as init_
 use Rattle.c_tree.specs.Folds.{StmtSteps, OpenStmtKind, OpenBlockItem, stmt_fold, stmt_kind_fold, block_fold}
+use Rattle.c_tree.specs.Forms.{sole}
 use Rattle.c_tree.specs.Depths.{IsFormedExpr, IsFormedDeclaration}
-use Rattle.c_tree.specs.Statements.{ends_in_if, ends_in_if_level, IsIf, IsIfKind, IsLabel, IsForInit, IsBlock, IsIfStatement, IsStmtKind, IsStmt, IsFormedStmt, IsFormedBlock}
+use Rattle.c_tree.specs.Statements.{ends_in_if, ends_in_if_level, IsIf, IsIfKind, IsLabel, IsForInit, IsBlock, IsBlockItem, IsIfStatement, IsStmtKind, IsStmt, IsFormedStmt, IsFormedBlock}
 use Rattle.c_tree.specs.Spell.{joined, stmt_spelling, stmt_kind_spelling, label_spelling}
 use Rattle.c_tree.proofs.Folds as fold
 use Rattle.c_tree.proofs.Spellings as spell
@@ -558,3 +559,208 @@ module _ (kind_of : ℕ → Option Kind) (bytes_of : ℕ → List ℕ) where
           ),
         ))
         (adds_token kind_of bytes_of (says_key kind_of bytes_of KEY_IF) (λ key h. adds_scope (adds_arms key) (λ x f r. (r.0, r.1, r.2, r.3, r.4, r.5, r.6, r.7, λ k. r.8 (closes k)))))
+
+    -- ---- `switch` (6.8.4.2), and loops (6.8.5)
+
+    -- Before its scope ends.
+    abbrev KindInside : Kinded → Open → Type 0
+    KindInside x f = IsKinded x × ((k : Said) → of_kind kind_of bytes_of x.kind and k ≡ f (closes k))
+
+    adds_switch : Adds kind_of bytes_of (lang.switch_ below d level inner) (λ k. k) KindIs
+    unfolding lang.switch_ lang.switch_inside
+    adds_switch = adds_token kind_of bytes_of (says_key kind_of bytes_of KEY_SWITCH) (λ n h. adds_scope {fine = KindInside}
+        (adds_part kind_of bytes_of adds_arm (λ x g a. adds_pure kind_of bytes_of (switch_of n x) (
+          (
+            kind_right (s.StmtKind-F.Switch x.cond x.body.stmt (n ∷ x.left ∷ x.right ∷ [])) _ (kind.rolls-Switch x.cond x.body.stmt (n ∷ x.left ∷ x.right ∷ []))
+                (λ depth i. (a.0 depth (deep depth i), body_formed x.body a.1 depth i, refl)),
+            body_ends x.body a.1 ∙ (ends_stmt x.body.stmt ∙ sym (fold.stmt_kind_switch_folds ends_steps x.cond x.body.stmt (n ∷ x.left ∷ x.right ∷ []))),
+          ),
+          λ k. law.switch_before kind_of bytes_of x.cond x.body.stmt n x.left x.right k ∙ ap (λ (z : Said). token n (want.Key KEY_SWITCH) (opens z)) (sym (a.2 (closes k))),
+        )))
+        (λ x f r. r))
+
+    adds_while : Adds kind_of bytes_of (lang.while_ below d level inner) (λ k. k) KindIs
+    unfolding lang.while_ lang.while_inside
+    adds_while = adds_token kind_of bytes_of (says_key kind_of bytes_of KEY_WHILE) (λ n h. adds_scope {fine = KindInside}
+        (adds_part kind_of bytes_of adds_arm (λ x g a. adds_pure kind_of bytes_of (while_of n x) (
+          (
+            kind_right (s.StmtKind-F.While x.cond x.body.stmt (n ∷ x.left ∷ x.right ∷ [])) _ (kind.rolls-While x.cond x.body.stmt (n ∷ x.left ∷ x.right ∷ []))
+                (λ depth i. (a.0 depth (deep depth i), body_formed x.body a.1 depth i, refl)),
+            body_ends x.body a.1 ∙ (ends_stmt x.body.stmt ∙ sym (fold.stmt_kind_while_folds ends_steps x.cond x.body.stmt (n ∷ x.left ∷ x.right ∷ []))),
+          ),
+          λ k. law.while_before kind_of bytes_of x.cond x.body.stmt n x.left x.right k ∙ ap (λ (z : Said). token n (want.Key KEY_WHILE) (opens z)) (sym (a.2 (closes k))),
+        )))
+        (λ x f r. r))
+
+    adds_do : Adds kind_of bytes_of (lang.do_ below d level inner) (λ k. k) KindIs
+    unfolding lang.do_ lang.do_inside
+    adds_do = adds_token kind_of bytes_of (says_key kind_of bytes_of KEY_DO) (λ n h. adds_scope {fine = KindInside}
+        (adds_part kind_of bytes_of adds_body (λ b g a. adds_token kind_of bytes_of (says_key kind_of bytes_of KEY_WHILE) (λ w i. adds_token kind_of bytes_of (says_mark kind_of bytes_of MARK_LEFT_PAREN) (λ l j.
+        adds_part kind_of bytes_of (expr (suc level)) (λ e f m. adds_token kind_of bytes_of (says_mark kind_of bytes_of MARK_RIGHT_PAREN) (λ r o. adds_token kind_of bytes_of (says_mark kind_of bytes_of MARK_SEMICOLON) (λ t p.
+        adds_pure kind_of bytes_of (do_of b e (n ∷ w ∷ l ∷ r ∷ t ∷ [])) (
+          (
+            kind_right (s.StmtKind-F.DoWhile b.stmt e (n ∷ w ∷ l ∷ r ∷ t ∷ [])) _ (kind.rolls-DoWhile b.stmt e (n ∷ w ∷ l ∷ r ∷ t ∷ []))
+                (λ depth i. (body_formed b a.0 depth i, m.0 depth (deep depth i), refl)),
+            sym (fold.stmt_kind_do_while_folds ends_steps b.stmt e (n ∷ w ∷ l ∷ r ∷ t ∷ [])),
+          ),
+          λ k. let rest = token r (want.Mark MARK_RIGHT_PAREN) (token t (want.Mark MARK_SEMICOLON) (closes k)) in
+              law.do_while_before kind_of bytes_of b.stmt e n w l r t k ∙
+              (ap (λ (z : Said). token n (want.Key KEY_DO) (opens z)) (a.1 (token w (want.Key KEY_WHILE) (token l (want.Mark MARK_LEFT_PAREN) (of_expr kind_of bytes_of e and rest)))) ∙
+              ap (λ (z : Said). token n (want.Key KEY_DO) (opens (g (token w (want.Key KEY_WHILE) (token l (want.Mark MARK_LEFT_PAREN) z))))) (m.1 rest)),
+        ))))))))
+        (λ x f r. r))
+
+    abbrev InitIs : ForInit → Open → Type 0
+    InitIs = Made kind_of bytes_of (of_for_init kind_of bytes_of) (IsFrom d (IsForInit kind_of))
+
+    adds_no_init : Adds kind_of bytes_of (lang.no_init below d level inner) (λ k. k) InitIs
+    unfolding lang.no_init
+    adds_no_init = adds_token kind_of bytes_of (says_mark kind_of bytes_of MARK_SEMICOLON) (λ m h. adds_pure kind_of bytes_of (init_.Nothing (m ∷ [])) ((λ depth i. refl), law.no_init_before kind_of bytes_of m))
+
+    adds_value_init : Adds kind_of bytes_of (lang.value_init below d level inner) (λ k. k) InitIs
+    unfolding lang.value_init
+    adds_value_init = adds_part kind_of bytes_of (expr (suc level)) (λ e f made. adds_token kind_of bytes_of (says_mark kind_of bytes_of MARK_SEMICOLON) (λ m h. adds_pure kind_of bytes_of (init_.Value e (m ∷ []))
+        ((λ depth i. (made.0 depth i, refl)), λ k. law.value_init_before kind_of bytes_of e m k ∙ made.1 (token m (want.Mark MARK_SEMICOLON) k))))
+
+    adds_declared_init : Adds kind_of bytes_of (lang.declared_init below d level inner) (λ k. k) InitIs
+    unfolding lang.declared_init
+    adds_declared_init = adds_part kind_of bytes_of (declaration (suc level)) (λ x f made. adds_pure kind_of bytes_of (init_.Declare x) (made.0, λ k. law.declared_init_before kind_of bytes_of x k ∙ made.1 k))
+
+    adds_init : Adds kind_of bytes_of (lang.for_init below d level inner) (λ k. k) InitIs
+    unfolding lang.for_init
+    adds_init = adds_or kind_of bytes_of adds_no_init (adds_or kind_of bytes_of adds_value_init adds_declared_init)
+
+    abbrev MaybeIs : ℕ → MaybeExpr → Open → Type 0
+    MaybeIs number x f = IsFrom d (λ depth y. IfSome y (IsFormedExpr kind_of depth)) x.expr × ((k : Said) → maybe kind_of bytes_of x.expr (token x.mark (want.Mark number) k) ≡ f k)
+
+    adds_maybe : (number : ℕ) → Adds kind_of bytes_of (lang.maybe_to below d level inner number) (λ k. k) (MaybeIs number)
+    unfolding lang.maybe_to lang.nothing_to lang.expr_to
+    adds_maybe number = adds_or kind_of bytes_of
+        (adds_token kind_of bytes_of (says_mark kind_of bytes_of number) (λ m h. adds_pure kind_of bytes_of (maybe_expr None m) ((λ depth i. tt), λ k. refl)))
+        (adds_part kind_of bytes_of (expr (suc level)) (λ e f made. adds_token kind_of bytes_of (says_mark kind_of bytes_of number) (λ m h. adds_pure kind_of bytes_of (maybe_expr (Some e) m) (made.0, λ k. made.1 (token m (want.Mark number) k)))))
+
+    adds_for : Adds kind_of bytes_of (lang.for_ below d level inner) (λ k. k) KindIs
+    unfolding lang.for_ lang.for_inside
+    adds_for = adds_token kind_of bytes_of (says_key kind_of bytes_of KEY_FOR) (λ n h. adds_scope {fine = KindInside}
+        (adds_token kind_of bytes_of (says_mark kind_of bytes_of MARK_LEFT_PAREN) (λ l j. adds_part kind_of bytes_of adds_init (λ i f im. adds_part kind_of bytes_of (adds_maybe MARK_SEMICOLON) (λ c g cm.
+        adds_part kind_of bytes_of (adds_maybe MARK_RIGHT_PAREN) (λ t o tm. adds_part kind_of bytes_of adds_body (λ b p a. adds_pure kind_of bytes_of (for_of (for_head n l i c t) b) (
+          let marks : List ℕ = n ∷ l ∷ c.mark ∷ t.mark ∷ [] in
+          (
+            kind_right (s.StmtKind-F.For i c.expr t.expr b.stmt marks) _ (kind.rolls-For i c.expr t.expr b.stmt marks)
+                (λ depth q. (im.0 depth (deep depth q), cm.0 depth (deep depth q), tm.0 depth (deep depth q), body_formed b a.0 depth q, refl)),
+            body_ends b a.0 ∙ (ends_stmt b.stmt ∙ sym (fold.stmt_kind_for_folds ends_steps i c.expr t.expr b.stmt marks)),
+          ),
+          λ k. let rest = of_body kind_of bytes_of b.stmt and closes k in
+              let step = maybe kind_of bytes_of t.expr (token t.mark (want.Mark MARK_RIGHT_PAREN) rest) in
+              let cond = maybe kind_of bytes_of c.expr (token c.mark (want.Mark MARK_SEMICOLON) step) in
+              law.for_before kind_of bytes_of i c.expr t.expr b.stmt n l c.mark t.mark k ∙
+              ap (λ (z : Said). token n (want.Key KEY_FOR) (opens (token l (want.Mark MARK_LEFT_PAREN) z))) (im.1 cond ∙ ap f (cm.1 step ∙ ap g (tm.1 rest ∙ ap o (a.1 (closes k))))),
+        )))))))
+        (λ x f r. r))
+
+    -- ---- Jumps (6.8.6)
+
+    adds_break : Adds kind_of bytes_of (lang.break_ below d level inner) (λ k. k) KindIs
+    unfolding lang.break_
+    adds_break = adds_token kind_of bytes_of (says_key kind_of bytes_of KEY_BREAK) (λ n h. adds_token kind_of bytes_of (says_mark kind_of bytes_of MARK_SEMICOLON) (λ m i. adds_pure kind_of bytes_of (closed (kind.Break (n ∷ m ∷ []))) (
+      (kind_right (s.StmtKind-F.Break (n ∷ m ∷ [])) _ (kind.rolls-Break (n ∷ m ∷ [])) (λ depth j. refl), sym (fold.stmt_kind_break_folds ends_steps (n ∷ m ∷ []))),
+      law.break_before kind_of bytes_of n m,
+    )))
+
+    adds_continue : Adds kind_of bytes_of (lang.continue_ below d level inner) (λ k. k) KindIs
+    unfolding lang.continue_
+    adds_continue = adds_token kind_of bytes_of (says_key kind_of bytes_of KEY_CONTINUE) (λ n h. adds_token kind_of bytes_of (says_mark kind_of bytes_of MARK_SEMICOLON) (λ m i. adds_pure kind_of bytes_of (closed (kind.Continue (n ∷ m ∷ []))) (
+      (kind_right (s.StmtKind-F.Continue (n ∷ m ∷ [])) _ (kind.rolls-Continue (n ∷ m ∷ [])) (λ depth j. refl), sym (fold.stmt_kind_continue_folds ends_steps (n ∷ m ∷ []))),
+      law.continue_before kind_of bytes_of n m,
+    )))
+
+    adds_goto : Adds kind_of bytes_of (lang.goto_ below d level inner) (λ k. k) KindIs
+    unfolding lang.goto_
+    adds_goto = adds_token kind_of bytes_of (says_key kind_of bytes_of KEY_GOTO) (λ n h. adds_token kind_of bytes_of (says_any kind_of bytes_of) (λ x j. adds_token kind_of bytes_of (says_mark kind_of bytes_of MARK_SEMICOLON) (λ m i.
+        adds_pure kind_of bytes_of (closed (kind.Goto x (n ∷ m ∷ []))) (
+          (kind_right (s.StmtKind-F.Goto x (n ∷ m ∷ [])) _ (kind.rolls-Goto x (n ∷ m ∷ [])) (λ depth o. refl), sym (fold.stmt_kind_goto_folds ends_steps x (n ∷ m ∷ []))),
+          law.goto_before kind_of bytes_of x n m,
+        ))))
+
+    adds_return : Adds kind_of bytes_of (lang.return_ below d level inner) (λ k. k) KindIs
+    unfolding lang.return_ lang.return_nothing lang.return_value
+    adds_return = adds_token kind_of bytes_of (says_key kind_of bytes_of KEY_RETURN) (λ n h. adds_or kind_of bytes_of
+        (adds_token kind_of bytes_of (says_mark kind_of bytes_of MARK_SEMICOLON) (λ m i. adds_pure kind_of bytes_of (closed (kind.Return None (n ∷ m ∷ []))) (
+          (kind_right (s.StmtKind-F.Return None (n ∷ m ∷ [])) _ (kind.rolls-Return None (n ∷ m ∷ [])) (λ depth j. (tt, refl)), sym (fold.stmt_kind_return_folds ends_steps None (n ∷ m ∷ []))),
+          law.return_before kind_of bytes_of None n m,
+        )))
+        (adds_part kind_of bytes_of (expr level) (λ e f made. adds_token kind_of bytes_of (says_mark kind_of bytes_of MARK_SEMICOLON) (λ m i. adds_pure kind_of bytes_of (closed (kind.Return (Some e) (n ∷ m ∷ []))) (
+          (kind_right (s.StmtKind-F.Return (Some e) (n ∷ m ∷ [])) _ (kind.rolls-Return (Some e) (n ∷ m ∷ [])) (λ depth j. (made.0 depth (deep depth j), refl)), sym (fold.stmt_kind_return_folds ends_steps (Some e) (n ∷ m ∷ []))),
+          λ k. law.return_before kind_of bytes_of (Some e) n m k ∙ ap (token n (want.Key KEY_RETURN)) (made.1 (token m (want.Mark MARK_SEMICOLON) k)),
+        )))))
+
+    -- ---- Statements (6.8)
+
+    adds_kinded : Adds kind_of bytes_of (lang.kinded below d level inner) (λ k. k) KindIs
+    unfolding lang.kinded
+    adds_kinded = adds_or kind_of bytes_of adds_empty (adds_or kind_of bytes_of adds_braced (adds_or kind_of bytes_of adds_if (adds_or kind_of bytes_of adds_while (adds_or kind_of bytes_of adds_do
+        (adds_or kind_of bytes_of adds_for (adds_or kind_of bytes_of adds_switch (adds_or kind_of bytes_of adds_break (adds_or kind_of bytes_of adds_continue (adds_or kind_of bytes_of adds_goto adds_return)))))))))
+
+    abbrev LabelsAre : List Mark → Open → Type 0
+    LabelsAre xs f = Every (IsFrom d (IsLabel kind_of)) xs × ((k : Said) → f k ≡ each (of_label kind_of bytes_of) xs k)
+
+    abbrev EndedIs : Ended → Open → Type 0
+    EndedIs = Made kind_of bytes_of (λ (e : Ended). of_stmt kind_of bytes_of e.stmt) (IsFrom (suc (suc (twice d))) (IsFormedEnded kind_of bytes_of))
+
+    abbrev TurnIs : Turn (List Mark) Ended → Open → Type 0
+    TurnIs = by_turn kind_of bytes_of LabelsAre EndedIs
+
+    ended_right : (labels : List Mark) (x : Kinded) (f g : Open) → LabelsAre labels f → KindIs x g → EndedIs (ended_of labels x) (λ k. f (g k))
+    ended_right labels x f g r m = (
+      from_next (λ depth. IsFormedEnded kind_of bytes_of depth (ended_of labels x)) (suc (twice d)) (λ n h. (
+        stmt_right labels x.kind n (every_at (IsLabel kind_of) d n (deep n h) labels r.0) (m.0.0 n h),
+        m.0.1 ∙ sym (ends_is (stmt_of labels x.kind)),
+      )),
+      λ k. law.stmt_before kind_of bytes_of (stmt_of labels x.kind) k ∙ (ap (each (of_label kind_of bytes_of) labels) (m.1 k) ∙ sym (r.1 (g k))),
+    )
+
+    label_more : (labels : List Mark) (x : Mark) (f g : Open) → LabelsAre labels f → IsFrom d (IsLabel kind_of) x → ((k : Said) → of_label kind_of bytes_of x and k ≡ g k) → LabelsAre (labels ++ x ∷ []) (λ k. f (g k))
+    label_more labels x f g r i e = (
+      every_snoc (IsFrom d (IsLabel kind_of)) labels x r.0 i,
+      λ k. r.1 (g k) ∙ (ap (each (of_label kind_of bytes_of) labels) (sym (e k)) ∙ sym (each_snoc (of_label kind_of bytes_of) labels x k)),
+    )
+
+    adds_turn : (labels : List Mark) (f : Open) → LabelsAre labels f → Adds kind_of bytes_of (lang.turn below d level inner labels) f TurnIs
+    unfolding lang.turn lang.other_turn lang.keyed_turn lang.name_turn lang.case_turn lang.default_turn lang.kinded_turn lang.value_turn
+    adds_turn labels f r = adds_or kind_of bytes_of
+        (adds_token kind_of bytes_of (says_any kind_of bytes_of) (λ n h. adds_token kind_of bytes_of (says_mark kind_of bytes_of MARK_COLON) (λ c i. adds_pure kind_of bytes_of (Again (with_label labels n c))
+        (label_more labels (mark_.Label n (c ∷ [])) f (λ k. token n want.Word (token c (want.Mark MARK_COLON) k)) r (λ depth j. refl) (law.label_before kind_of bytes_of n c)))))
+        (adds_or kind_of bytes_of
+        (adds_or kind_of bytes_of
+        (adds_token kind_of bytes_of (says_key kind_of bytes_of KEY_CASE) (λ n h. adds_part kind_of bytes_of (constant level) (λ a g m. adds_token kind_of bytes_of (says_mark kind_of bytes_of MARK_COLON) (λ c i.
+        adds_pure kind_of bytes_of (Again (with_case labels n a c))
+        (label_more labels (mark_.Case (sole a) (n ∷ c ∷ [])) f (λ k. token n (want.Key KEY_CASE) (g (token c (want.Mark MARK_COLON) k))) r (λ depth j. (m.0 depth j, refl))
+        (λ k. law.case_before kind_of bytes_of (sole a) n c k ∙ ap (token n (want.Key KEY_CASE)) (law.sole_before kind_of bytes_of a (token c (want.Mark MARK_COLON) k) ∙ m.1 (token c (want.Mark MARK_COLON) k))))))))
+        (adds_or kind_of bytes_of
+        (adds_token kind_of bytes_of (says_key kind_of bytes_of KEY_DEFAULT) (λ n h. adds_token kind_of bytes_of (says_mark kind_of bytes_of MARK_COLON) (λ c i. adds_pure kind_of bytes_of (Again (with_default labels n c))
+        (label_more labels (mark_.Default n (c ∷ [])) f (λ k. token n (want.Key KEY_DEFAULT) (token c (want.Mark MARK_COLON) k)) r (λ depth j. refl) (law.default_before kind_of bytes_of n c)))))
+        (adds_part kind_of bytes_of adds_kinded (λ x g m. adds_pure kind_of bytes_of (Done (ended_of labels x)) (ended_right labels x f g r m)))))
+        (adds_part kind_of bytes_of adds_value (λ x g m. adds_pure kind_of bytes_of (Done (ended_of labels x)) (ended_right labels x f g r m))))
+
+    pub adds_statement : Adds kind_of bytes_of (lang.statement below d level inner) (λ k. k) EndedIs
+    unfolding lang.statement
+    adds_statement = adds_repeat kind_of bytes_of d {fine = LabelsAre} (λ labels f r. adds_turn labels f r) [] (tt, λ k. refl)
+
+    -- ---- Items of blocks (6.8.2)
+
+    abbrev ItemIs : BlockItem → Open → Type 0
+    ItemIs = Made kind_of bytes_of (of_item kind_of bytes_of) (IsFrom (suc (suc (twice d))) (IsFormedItem kind_of bytes_of))
+
+    do_right : (e : Ended) → IsFrom (suc (suc (twice d))) (IsFormedEnded kind_of bytes_of) e → IsFrom (suc (suc (twice d))) (IsFormedItem kind_of bytes_of) (item_.Do e.stmt)
+    do_right e g = λ depth h. subst (IsFormedItem kind_of bytes_of depth) (item_.rolls-Do e.stmt)
+        (subst (λ z. IsBlockItem kind_of depth (IsFormedStmt kind_of depth) z) (sym (out-roll-BlockItem (s.BlockItem-F.Do e.stmt))) (g depth h).0)
+
+    declare_right : (x : Declaration) → IsFrom d (IsFormedDeclaration kind_of) x → IsFrom (suc (suc (twice d))) (IsFormedItem kind_of bytes_of) (item_.Declare x)
+    declare_right x g = λ depth h. subst (IsFormedItem kind_of bytes_of depth) (item_.rolls-Declare x)
+        (subst (λ z. IsBlockItem kind_of depth (IsFormedStmt kind_of depth) z) (sym (out-roll-BlockItem (s.BlockItem-F.Declare x))) (g depth (omega (arith, twice_least d, h))))
+
+    pub adds_item : Adds kind_of bytes_of (lang.item below d level inner) (λ k. k) ItemIs
+    unfolding lang.item lang.statement_item lang.declaration_item
+    adds_item = adds_or kind_of bytes_of
+        (adds_part kind_of bytes_of adds_statement (λ e f m. adds_pure kind_of bytes_of (item_.Do e.stmt) (do_right e m.0, λ k. law.do_before kind_of bytes_of e.stmt k ∙ m.1 k)))
+        (adds_part kind_of bytes_of (declaration level) (λ x f m. adds_pure kind_of bytes_of (item_.Declare x) (declare_right x m.0, λ k. law.declare_before kind_of bytes_of x k ∙ m.1 k)))
