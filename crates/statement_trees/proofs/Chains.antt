@@ -23,6 +23,7 @@ use Rattle.c_reading.specs.Kept.{KeptToken}
 use Rattle.expression_trees.specs.Saying.{Said, ◌and◌, nothing, token, FitTokens, AreMet, AreSaid}
 use Rattle.expression_trees.specs.Trees.{of_expr}
 use Rattle.expression_trees.proofs.FormsSay.{same_said, said_of}
+use Rattle.expression_trees.proofs.Lists.{Every}
 use Rattle.statement_trees.specs.Trees.{stmt_steps_of, of_stmt, of_kind, of_body}
 use Rattle.statement_trees.proofs.FormsSay.{opens, closes}
 use Rattle.statement_trees.proofs.Scoped.{IsFree, IsSame, shut_scoped, shut_none, same_shut, same_step, nested_from_flat, flat_from_nested}
@@ -179,7 +180,7 @@ module _ (kind_of : ℕ → Option Kind) (bytes_of : ℕ → List ℕ) where
   abbrev met_arms : List (Expr × Stmt) → List (Expr × Events)
   met_arms arms = map (λ (t : Expr × Stmt). (t.0, stmt_fold (stmt_steps_of kind_of bytes_of) t.1)) arms
 
-  abbrev nested_events : Steps → Branch → Tail → Events
+  abbrev pub nested_events : Steps → Branch → Tail → Events
   nested_events ss last tail = if_events kind_of bytes_of (met_arms (arms_in ss last)) (option_map (stmt_fold (stmt_steps_of kind_of bytes_of)) (tail_stmt tail))
 
   abbrev tail_met : Tail → Events
@@ -205,33 +206,39 @@ module _ (kind_of : ℕ → Option Kind) (bytes_of : ℕ → List ℕ) where
   flat_then [] last tail k = ap (branch_met last) (tail_then tail k) ∙ sym (branch_then last (tail_met tail) k.events)
   flat_then (s ∷ ss) last tail k = ap (branch_met s.0) (flat_then ss last tail k) ∙ sym (branch_then s.0 (flat_events ss last tail) k.events)
 
-  module _ (free_expr : (e : Expr) → IsFree (of_expr kind_of bytes_of e).events) (free_stmt : (s : Stmt) → IsFree (of_stmt kind_of bytes_of s).events) where
-    same_tail : (tail : Tail) → IsSame (tail_met tail) (if_events kind_of bytes_of [] (option_map (stmt_fold (stmt_steps_of kind_of bytes_of)) (tail_stmt tail)))
-    same_tail None = same_shut [] shut_none
-    same_tail (Some t) = same_shut _ (shut_scoped (stmt_fold (stmt_steps_of kind_of bytes_of) t.1) (free_stmt t.1))
+  abbrev pub IsFreeBranch : Branch → Type 0
+  IsFreeBranch b = IsFree (of_expr kind_of bytes_of b.cond).events × IsFree (of_stmt kind_of bytes_of b.body).events
 
-    same_if : (ss : Steps) (last : Branch) (tail : Tail) → IsSame (flat_events ss last tail) (nested_events ss last tail)
-    unfolding expr_events
-    same_if [] last tail = same_step (of_expr kind_of bytes_of last.cond).events (stmt_fold (stmt_steps_of kind_of bytes_of) last.body) _ _ (free_expr last.cond) (free_stmt last.body) (same_tail tail)
-    same_if (s ∷ ss) last tail = same_step (of_expr kind_of bytes_of s.0.cond).events (stmt_fold (stmt_steps_of kind_of bytes_of) s.0.body) _ _ (free_expr s.0.cond) (free_stmt s.0.body) (same_if ss last tail)
+  abbrev pub IsFreeTail : Tail → Type 0
+  IsFreeTail None = Prim.Unit {0}
+  IsFreeTail (Some t) = IsFree (of_stmt kind_of bytes_of t.1).events
 
-    if_met : (ss : Steps) (last : Branch) (tail : Tail) → (of_kind kind_of bytes_of (if_tree ss last tail)).events ≡ nested_events ss last tail
-    if_met ss last tail = fold.stmt_kind_if_folds (stmt_steps_of kind_of bytes_of) (arms_in ss last) (tail_stmt tail) (marks_in ss last tail)
+  same_tail : (tail : Tail) → IsFreeTail tail → IsSame (tail_met tail) (if_events kind_of bytes_of [] (option_map (stmt_fold (stmt_steps_of kind_of bytes_of)) (tail_stmt tail)))
+  same_tail None g = same_shut [] shut_none
+  same_tail (Some t) g = same_shut _ (shut_scoped (stmt_fold (stmt_steps_of kind_of bytes_of) t.1) g)
 
-    pub nested_if : (ss : Steps) (last : Branch) (tail : Tail) (k : Said) (ts : List KeptToken) (scopes end : OpenScopes) →
-        AreSaid kind_of bytes_of (opens (steps_said ss (arm_said last (tail_said tail (closes k))))) ts scopes end → AreSaid kind_of bytes_of (of_kind kind_of bytes_of (if_tree ss last tail) and k) ts scopes end
-    nested_if ss last tail k ts scopes end f = (
-      subst (λ (z : Symbols). FitTokens kind_of bytes_of z ts) (sym (if_spelled ss last tail (closes k))) f.0,
-      subst (λ (z : Events). AreMet scopes (z ++ k.events) end) (sym (if_met ss last tail))
-          (nested_from_flat (flat_events ss last tail) (nested_events ss last tail) k.events (same_if ss last tail) scopes end
-          (subst (λ (z : Events). AreMet scopes (Opens ∷ z) end) (flat_then ss last tail (closes k)) f.1)),
-    )
+  pub same_if : (ss : Steps) (last : Branch) (tail : Tail) → Every (λ (x : Branch × ℕ). IsFreeBranch x.0) ss → IsFreeBranch last → IsFreeTail tail → IsSame (flat_events ss last tail) (nested_events ss last tail)
+  unfolding expr_events
+  same_if [] last tail f g h = same_step (of_expr kind_of bytes_of last.cond).events (stmt_fold (stmt_steps_of kind_of bytes_of) last.body) _ _ g.0 g.1 (same_tail tail h)
+  same_if (s ∷ ss) last tail f g h = same_step (of_expr kind_of bytes_of s.0.cond).events (stmt_fold (stmt_steps_of kind_of bytes_of) s.0.body) _ _ f.0.0 f.0.1 (same_if ss last tail f.1 g h)
 
-    pub flat_if : (ss : Steps) (last : Branch) (tail : Tail) (k : Said) (ts : List KeptToken) (scopes end : OpenScopes) →
-        AreSaid kind_of bytes_of (of_kind kind_of bytes_of (if_tree ss last tail) and k) ts scopes end → AreSaid kind_of bytes_of (opens (steps_said ss (arm_said last (tail_said tail (closes k))))) ts scopes end
-    flat_if ss last tail k ts scopes end f = (
-      subst (λ (z : Symbols). FitTokens kind_of bytes_of z ts) (if_spelled ss last tail (closes k)) f.0,
-      subst (λ (z : Events). AreMet scopes (Opens ∷ z) end) (sym (flat_then ss last tail (closes k)))
-          (flat_from_nested (flat_events ss last tail) (nested_events ss last tail) k.events (same_if ss last tail) scopes end
-          (subst (λ (z : Events). AreMet scopes (z ++ k.events) end) (if_met ss last tail) f.1)),
-    )
+  pub if_met : (ss : Steps) (last : Branch) (tail : Tail) → (of_kind kind_of bytes_of (if_tree ss last tail)).events ≡ nested_events ss last tail
+  if_met ss last tail = fold.stmt_kind_if_folds (stmt_steps_of kind_of bytes_of) (arms_in ss last) (tail_stmt tail) (marks_in ss last tail)
+
+  pub nested_if : (ss : Steps) (last : Branch) (tail : Tail) → Every (λ (x : Branch × ℕ). IsFreeBranch x.0) ss → IsFreeBranch last → IsFreeTail tail → (k : Said) (ts : List KeptToken) (scopes end : OpenScopes) →
+      AreSaid kind_of bytes_of (opens (steps_said ss (arm_said last (tail_said tail (closes k))))) ts scopes end → AreSaid kind_of bytes_of (of_kind kind_of bytes_of (if_tree ss last tail) and k) ts scopes end
+  nested_if ss last tail u v w k ts scopes end f = (
+    subst (λ (z : Symbols). FitTokens kind_of bytes_of z ts) (sym (if_spelled ss last tail (closes k))) f.0,
+    subst (λ (z : Events). AreMet scopes (z ++ k.events) end) (sym (if_met ss last tail))
+        (nested_from_flat (flat_events ss last tail) (nested_events ss last tail) k.events (same_if ss last tail u v w) scopes end
+        (subst (λ (z : Events). AreMet scopes (Opens ∷ z) end) (flat_then ss last tail (closes k)) f.1)),
+  )
+
+  pub flat_if : (ss : Steps) (last : Branch) (tail : Tail) → Every (λ (x : Branch × ℕ). IsFreeBranch x.0) ss → IsFreeBranch last → IsFreeTail tail → (k : Said) (ts : List KeptToken) (scopes end : OpenScopes) →
+      AreSaid kind_of bytes_of (of_kind kind_of bytes_of (if_tree ss last tail) and k) ts scopes end → AreSaid kind_of bytes_of (opens (steps_said ss (arm_said last (tail_said tail (closes k))))) ts scopes end
+  flat_if ss last tail u v w k ts scopes end f = (
+    subst (λ (z : Symbols). FitTokens kind_of bytes_of z ts) (if_spelled ss last tail (closes k)) f.0,
+    subst (λ (z : Events). AreMet scopes (Opens ∷ z) end) (sym (flat_then ss last tail (closes k)))
+        (flat_from_nested (flat_events ss last tail) (nested_events ss last tail) k.events (same_if ss last tail u v w) scopes end
+        (subst (λ (z : Events). AreMet scopes (z ++ k.events) end) (if_met ss last tail) f.1)),
+  )

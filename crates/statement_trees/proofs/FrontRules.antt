@@ -69,7 +69,7 @@ use Rattle.statement_trees.specs.Forms.{IsFrom, twice, IsFormedConstant, IsForme
 use Rattle.statement_trees.proofs.FormsSay as law
 use Rattle.statement_trees.proofs.FormsSay.{opens, closes, maybe}
 use Rattle.statement_trees.proofs.Scoped.{IsFree, IsShut, wrapped}
-use Rattle.statement_trees.proofs.Chains.{Branch, Steps, Tail, arm_in, arms_done, marks_done, tail_marks, tail_stmt, arms_in, marks_in, if_tree, arm_said, steps_said, tail_said, arms_snoc, marks_snoc, steps_snoc, by_chain, if_begins, nested_if}
+use Rattle.statement_trees.proofs.Chains.{Branch, Steps, Tail, arm_in, arms_done, marks_done, tail_marks, tail_stmt, arms_in, marks_in, if_tree, arm_said, steps_said, tail_said, arms_snoc, marks_snoc, steps_snoc, by_chain, if_begins, IsFreeBranch, IsFreeTail, nested_if}
 
 -- ---- Which statements end in an `if`
 
@@ -220,8 +220,9 @@ module _ (kind_of : ℕ → Option Kind) (bytes_of : ℕ → List ℕ) where
 
   -- ---- Parts of statements
 
-  module _ (free_expr : (e : Expr) → IsFree (of_expr kind_of bytes_of e).events) (free_stmt : (s : Stmt) → IsFree (of_stmt kind_of bytes_of s).events)
-      (shut_block : (b : Block) → IsShut (of_block kind_of bytes_of b).events) (below : Below) (d level : ℕ) (inner : Inside)
+  module _ (free_expr : (depth : ℕ) (e : Expr) → IsFormedExpr kind_of depth e → IsFree (of_expr kind_of bytes_of e).events)
+      (free_stmt : (depth : ℕ) (s : Stmt) → IsFormedStmt kind_of depth s → IsFree (of_stmt kind_of bytes_of s).events)
+      (shut_block : (depth : ℕ) (b : Block) → IsFormedBlock kind_of depth b → IsShut (of_block kind_of bytes_of b).events) (below : Below) (d level : ℕ) (inner : Inside)
       (expr : (at : ℕ) → Adds kind_of bytes_of (below.expr d at) (λ k. k) (Made kind_of bytes_of (of_expr kind_of bytes_of) (IsFrom d (IsFormedExpr kind_of))))
       (constant : (at : ℕ) → Adds kind_of bytes_of (below.constant d at) (λ k. k) (Made kind_of bytes_of (of_assign kind_of bytes_of) (IsFrom d (IsFormedConstant kind_of bytes_of))))
       (declaration : (at : ℕ) → Adds kind_of bytes_of (below.declaration d at) (λ k. k) (Made kind_of bytes_of (of_declaration kind_of bytes_of) (IsFrom d (IsFormedDeclaration kind_of))))
@@ -338,10 +339,10 @@ module _ (kind_of : ℕ → Option Kind) (bytes_of : ℕ → List ℕ) where
     block_stmt_met b = fold.stmt_folds (stmt_steps_of kind_of bytes_of) (stmt_of [] (kind.Braced b)) ∙ fold.stmt_kind_braced_folds (stmt_steps_of kind_of bytes_of) b
 
     -- Its scope is that of the body too.
-    block_body_says : (b : Block) (k : Said) (ts : List KeptToken) (scopes end : OpenScopes) → AreSaid kind_of bytes_of (of_stmt kind_of bytes_of (stmt_of [] (kind.Braced b)) and k) ts scopes end →
+    block_body_says : (b : Block) → IsBlockFrom b → (k : Said) (ts : List KeptToken) (scopes end : OpenScopes) → AreSaid kind_of bytes_of (of_stmt kind_of bytes_of (stmt_of [] (kind.Braced b)) and k) ts scopes end →
         AreSaid kind_of bytes_of (of_body kind_of bytes_of (stmt_of [] (kind.Braced b)) and k) ts scopes end
-    block_body_says b k ts scopes end f =
-        let shut = subst IsShut (sym (block_stmt_met b)) (shut_block b) in
+    block_body_says b g k ts scopes end f =
+        let shut = subst IsShut (sym (block_stmt_met b)) (shut_block (twice d) b (g (twice d) (omega arith))) in
         (f.0, wrapped (of_stmt kind_of bytes_of (stmt_of [] (kind.Braced b))).events shut k.events scopes end f.1)
 
     adds_braced_body : Adds kind_of bytes_of (lang.braced_body below d level inner) (λ k. k) BodyIs
@@ -350,7 +351,7 @@ module _ (kind_of : ℕ → Option Kind) (bytes_of : ℕ → List ℕ) where
         (λ e f r. (
           (λ k. of_body kind_of bytes_of e.stmt and k),
           (λ k ts scopes end m.
-              subst (λ (z : Ended). AreSaid kind_of bytes_of (of_body kind_of bytes_of z.stmt and k) ts scopes end) (sym r.1) (block_body_says r.0 k ts scopes end
+              subst (λ (z : Ended). AreSaid kind_of bytes_of (of_body kind_of bytes_of z.stmt and k) ts scopes end) (sym r.1) (block_body_says r.0 r.2 k ts scopes end
               (subst (λ (z : Said). AreSaid kind_of bytes_of z ts scopes end) (sym (law.stmt_before kind_of bytes_of (stmt_of [] (kind.Braced r.0)) k ∙ r.3 k)) m))),
           (subst IsBodyFrom (sym r.1) (block_body_right r.0 r.2), λ k. refl),
         ))
@@ -434,6 +435,13 @@ module _ (kind_of : ℕ → Option Kind) (bytes_of : ℕ → List ℕ) where
         last_is : (tail : Tail) → IsTail last tail → IsSome (tail_stmt tail) → ends_in_if last.body ≡ false
         last_is None t i = never i
         last_is (Some x) t i = t.0
+
+    free_branch : (b : Branch) → IsBranch b → IsFreeBranch kind_of bytes_of b
+    free_branch b g = (free_expr d b.cond (g.0 d (omega arith)), free_stmt (suc (twice d)) b.body (g.1 (suc (twice d)) (omega arith)))
+
+    free_tail : (last : Branch) (tail : Tail) → IsTail last tail → IsFreeTail kind_of bytes_of tail
+    free_tail last None g = tt
+    free_tail last (Some t) g = free_stmt (suc (twice d)) t.1 (g.1 (suc (twice d)) (omega arith))
 
     abbrev branch_of : Arm → ℕ → Branch
     branch_of x key = record { cond = x.cond; body = x.body.stmt; key = key; left = x.left; right = x.right }
@@ -548,7 +556,7 @@ module _ (kind_of : ℕ → Option Kind) (bytes_of : ℕ → List ℕ) where
         (λ x f r. (
           (λ k. of_kind kind_of bytes_of x.kind and k),
           (λ k ts scopes end m. subst (λ z. AreSaid kind_of bytes_of (of_kind kind_of bytes_of z and k) ts scopes end) (sym r.3)
-              (nested_if kind_of bytes_of free_expr free_stmt r.0 r.1 r.2 k ts scopes end (subst (λ (z : Said). AreSaid kind_of bytes_of z ts scopes end) (r.8 k) m))),
+              (nested_if kind_of bytes_of r.0 r.1 r.2 (every_of_each IsStep (λ (x : Branch × ℕ). IsFreeBranch kind_of bytes_of x.0) (λ x g. free_branch x.0 g.0) r.0 r.5) (free_branch r.1 r.6) (free_tail r.1 r.2 r.7) k ts scopes end (subst (λ (z : Said). AreSaid kind_of bytes_of z ts scopes end) (r.8 k) m))),
           (
             (
               subst (IsFrom (suc (twice d)) IsKind) (sym r.3) (kind_right (s.StmtKind-F.If (arms_in r.0 r.1) (tail_stmt r.2) (marks_in r.0 r.1 r.2)) _
