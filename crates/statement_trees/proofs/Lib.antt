@@ -2,3 +2,4 @@ pub mod Scoped
 pub mod FormsSay
 pub mod Chains
 pub mod FrontRules
+pub mod BackRules
