@@ -25,12 +25,22 @@ use Rattle.c_tree.specs.declared.tree.Mark.{Mark}
 use Rattle.c_tree.specs.Folds.{OpenStmtKind}
 use Rattle.c_tree.specs.Depths.{IsFormedExpr, IsFormedDeclaration}
 use Rattle.c_tree.specs.Statements.{ends_in_if, IsIf, IsLabel, IsForInit, IsBlock, IsIfStatement, IsStmtKind, IsStmt, IsFormedStmt, IsFormedBlock}
+use Rattle.c_tree.specs.Spell.{Symbols, stmt_spelling}
+use Rattle.c_tree.specs.declared.tree.Mark.TheVariants as mark_
+use Rattle.c_tree.specs.declared.tree.ForInit.{ForInit}
+use Rattle.c_tree.specs.declared.tree.ForInit.TheVariants as init_
+use Rattle.c_tree.specs.declared.tree.BlockItem.{roll-BlockItem, out-BlockItem, roll-out-BlockItem}
+use Rattle.c_tree.specs.declared.tree.BlockItem.TheVariants as item_
+use Rattle.c_tree.specs.declared.tree.StmtKind.{out-roll-StmtKind}
+use Rattle.c_tree.specs.declared.tree.Expr.{out-Expr, roll-Expr, roll-out-Expr, out-roll-Expr}
+use Rattle.c_tree.specs.Forms.{sole}
 use Rattle.c_tree.proofs.Folds as fold
 use Rattle.reading.specs.declared.turn.Turn.TheVariants.{Again, Done}
 use Rattle.reading.specs.Languages.{Leveled, tokens_of}
 use Rattle.reading.specs.Rules.{pure, changes, repeat}
 use Rattle.reading.specs.Terminals.{has}
 use Rattle.reading.specs.Readers.{begins}
+use Rattle.reading.proofs.Sets.{never}
 use Rattle.c_reading.specs.Kept.{KeptToken}
 use Rattle.c_syntax.specs.Scoping.{Part, terminal_of}
 use Rattle.c_stmt.specs.declared.forms.Kinded.{Kinded}
@@ -40,24 +50,25 @@ use Rattle.c_stmt.specs.declared.forms.Arm.{Arm}
 use Rattle.c_stmt.specs.declared.forms.Arms.{Arms}
 use Rattle.c_stmt.specs.Choices.{without}
 use Rattle.c_stmt.specs.StatementSets.{a_left_brace, an_if}
-use Rattle.c_stmt.specs.StatementForms.{closed, ended_of, stmt_of, with_item, no_items, block_of, arm_of, first_arms, with_arm, arms_to, without_else, with_else, switch_of, while_of, do_of}
+use Rattle.c_stmt.specs.declared.forms.MaybeExpr.{MaybeExpr}
+use Rattle.c_stmt.specs.StatementForms.{maybe_expr, for_head, for_of, with_label, with_case, with_default, closed, ended_of, stmt_of, with_item, no_items, block_of, arm_of, first_arms, with_arm, arms_to, without_else, with_else, switch_of, while_of, do_of}
 use Rattle.c_stmt.specs.Below.{Below, Inside}
 use Rattle.c_stmt.specs.StatementRules as lang
 use Rattle.c_stmt.specs.StatementRules.{entering, in_scope}
-use Rattle.expression_trees.specs.Saying.{Said, ◌and◌, token, AreSaid}
+use Rattle.expression_trees.specs.Saying.{Said, ◌and◌, token, FitTokens, AreSaid}
 use Rattle.expression_trees.specs.Trees.{of_expr, of_assign}
 use Rattle.expression_trees.proofs.FormsSay.{each}
 use Rattle.expression_trees.proofs.Lists.{Every, every_of, by_one, by_two}
 use Rattle.expression_trees.proofs.Front.{Open}
 use Rattle.expression_trees.proofs.Back.{Back, Spins, back_pure, back_then, back_token, back_left, back_right, back_same, back_loop, spins_same, repeat_again, repeat_done}
 use Rattle.expression_trees.proofs.Tokens.{hears_mark, hears_key, hears_any}
-use Rattle.statement_trees.specs.Trees.{of_declaration, of_stmt, of_kind, of_body, of_block, of_item, of_label, of_for_init}
+use Rattle.statement_trees.specs.Trees.{stmt_steps_of, of_declaration, of_stmt, of_kind, of_body, of_block, of_item, of_label, of_for_init}
 use Rattle.statement_trees.specs.Forms.{IsFormedConstant, IsFormedItem, IsFormedEnded}
 use Rattle.statement_trees.proofs.FormsSay as law
 use Rattle.statement_trees.proofs.FormsSay.{opens, closes, maybe}
 use Rattle.statement_trees.proofs.Scoped.{IsFree, IsShut, unwrapped}
-use Rattle.statement_trees.proofs.FrontRules.{ends_kind, ends_is, ends_stmt}
-use Rattle.statement_trees.proofs.Chains.{Branch, Steps, Tail, arm_in, arms_done, marks_done, tail_stmt, arms_in, marks_in, if_tree, arm_said, steps_said, tail_said, by_chain, IsFreeBranch, IsFreeTail, flat_if}
+use Rattle.statement_trees.proofs.FrontRules.{ends_steps, ends_kind, ends_is, ends_stmt, arms_some}
+use Rattle.statement_trees.proofs.Chains.{Branch, Steps, Tail, arm_in, arms_done, marks_done, tail_stmt, arms_in, marks_in, if_tree, arm_said, steps_said, tail_said, arms_snoc, marks_snoc, by_chain, IsFreeBranch, IsFreeTail, flat_if}
 
 -- ---- Marks by their count
 
@@ -135,11 +146,22 @@ module _ (kind_of : ℕ → Option Kind) (bytes_of : ℕ → List ℕ) where
         };
   }
 
+  -- Tokens of the symbols begin with no token of the set.
+  abbrev pub NoneBegins : List ℕ → Symbols → Type 0
+  NoneBegins set symbols = (rest : Symbols) (ts : List KeptToken) (scopes : OpenScopes) → FitTokens kind_of bytes_of (symbols ++ rest) ts → begins (λ t. has set (terminal_of scopes t)) ts ≡ false
+
+  -- A block without labels.
+  abbrev pub IsBraced : Stmt → Type 0
+  IsBraced x = (b : Block) × (x ≡ stmt_of [] (kind.Braced b))
+
   module _ (free_expr : (depth : ℕ) (e : Expr) → IsFormedExpr kind_of depth e → IsFree (of_expr kind_of bytes_of e).events)
       (free_stmt : (depth : ℕ) (x : Stmt) → IsFormedStmt kind_of depth x → IsFree (of_stmt kind_of bytes_of x).events)
       (shut_block : (depth : ℕ) (b : Block) → IsFormedBlock kind_of depth b → IsShut (of_block kind_of bytes_of b).events)
+      (braced_or : (depth : ℕ) (x : Stmt) → IsFormedStmt kind_of depth x → IsBraced x ⊎ NoneBegins a_left_brace (stmt_spelling x))
+      (begins_no_if : (depth : ℕ) (x : Stmt) → IsFormedStmt kind_of depth x → (IsIf x → ⊥) → NoneBegins an_if (stmt_spelling x))
       (below : Below) (level n : ℕ) (inner : ℕ → Inside)
       (expr : (at depth : ℕ) (e : Expr) → IsFormedExpr kind_of depth e → Back kind_of bytes_of (λ d. below.expr d at) e (λ k. of_expr kind_of bytes_of e and k))
+      (constant : (at depth : ℕ) (a : Assign) → IsFormedConstant kind_of bytes_of depth a → Back kind_of bytes_of (λ d. below.constant d at) a (λ k. of_assign kind_of bytes_of a and k))
       (declaration : (at depth : ℕ) (x : Declaration) → IsFormedDeclaration kind_of depth x → Back kind_of bytes_of (λ d. below.declaration d at) x (λ k. of_declaration kind_of bytes_of x and k))
       (item : (depth : ℕ) → suc depth ≤ n → (x : BlockItem) → IsFormedItem kind_of bytes_of depth x → Back kind_of bytes_of (λ d. (inner d).item) x (λ k. of_item kind_of bytes_of x and k))
       (statement : (depth : ℕ) → suc depth ≤ n → (e : Ended) → IsFormedEnded kind_of bytes_of depth e → Back kind_of bytes_of (λ d. (inner d).statement) e (λ k. of_stmt kind_of bytes_of e.stmt and k)) where
@@ -180,3 +202,183 @@ module _ (kind_of : ℕ → Option Kind) (bytes_of : ℕ → List ℕ) where
     braced_back : (m : ℕ) → suc m ≤ n → (b : Block) → IsFormedBlock kind_of m b → Back kind_of bytes_of (λ d. lang.braced below d level (inner d)) (closed (kind.Braced b)) (λ k. of_kind kind_of bytes_of (kind.Braced b) and k)
     unfolding lang.braced
     braced_back m h b g = back_same kind_of bytes_of refl (law.braced_before kind_of bytes_of b) (back_then kind_of bytes_of (block_back m h b g) (back_pure kind_of bytes_of (closed (kind.Braced b))))
+
+    -- ---- Bodies of statements (6.8.4p3, 6.8.5p5)
+
+    abbrev ended_from : Stmt → Ended
+    ended_from x = record { stmt = x; dangles = ends_in_if x }
+
+    abbrev Bodies : Stmt → Type 0
+    Bodies x = Back kind_of bytes_of (λ d. lang.body below d level (inner d)) (ended_from x) (λ k. of_body kind_of bytes_of x and k)
+
+    block_stmt_met : (b : Block) → (of_stmt kind_of bytes_of (stmt_of [] (kind.Braced b))).events ≡ (of_block kind_of bytes_of b).events
+    block_stmt_met b = fold.stmt_folds (stmt_steps_of kind_of bytes_of) (stmt_of [] (kind.Braced b)) ∙ fold.stmt_kind_braced_folds (stmt_steps_of kind_of bytes_of) b
+
+    block_of_body : (m : ℕ) (b : Block) → IsFormedBlock kind_of m b → (k : Said) (ts : List KeptToken) (scopes end : OpenScopes) →
+        AreSaid kind_of bytes_of (of_body kind_of bytes_of (stmt_of [] (kind.Braced b)) and k) ts scopes end → AreSaid kind_of bytes_of (of_kind kind_of bytes_of (kind.Braced b) and k) ts scopes end
+    block_of_body m b g k ts scopes end f =
+        let x = stmt_of [] (kind.Braced b) in
+        let shut = subst IsShut (sym (block_stmt_met b)) (shut_block m b g) in
+        let bare : AreSaid kind_of bytes_of (of_stmt kind_of bytes_of x and k) ts scopes end = (f.0, unwrapped (of_stmt kind_of bytes_of x).events shut k.events scopes end f.1) in
+        subst (λ (z : Said). AreSaid kind_of bytes_of z ts scopes end) (law.stmt_before kind_of bytes_of x k) bare
+
+    braced_body_back : (m : ℕ) → suc m ≤ n → (b : Block) → IsFormedBlock kind_of m b → Bodies (stmt_of [] (kind.Braced b))
+    unfolding lang.body lang.braced_body
+    braced_body_back m h b g = back_left kind_of bytes_of (back_same kind_of bytes_of
+        (ap (λ z. record { stmt = stmt_of [] (kind.Braced b); dangles = z }) (sym (ends_is (stmt_of [] (kind.Braced b)) ∙ fold.stmt_kind_braced_folds _ b))) (λ k. refl)
+        (back_then kind_of bytes_of {before = λ k. of_body kind_of bytes_of (stmt_of [] (kind.Braced b)) and k} (back_from (block_of_body m b g) (braced_back m h b g)) (back_pure kind_of bytes_of (ended_of [] (closed (kind.Braced b))))))
+
+    unbraced_back : (m : ℕ) → suc m ≤ n → (x : Stmt) → IsFormedStmt kind_of m x → NoneBegins a_left_brace (stmt_spelling x) → Bodies x
+    unfolding lang.body lang.unbraced
+    unbraced_back m h x g first = back_right kind_of bytes_of (back_without a_left_brace (λ k ts scopes end f. first k.symbols ts scopes f.0)
+        (back_same kind_of bytes_of refl (law.body_before kind_of bytes_of x) (back_scope (statement m h (ended_from x) (g, refl)))))
+
+    block_in : (m : ℕ) → suc m ≤ n → (b : Block) → IsFormedStmt kind_of m (stmt_of [] (kind.Braced b)) → Bodies (stmt_of [] (kind.Braced b))
+    unfolding IsFormedStmt
+    block_in zero h b g = absurd g
+    block_in (suc m) h b g = braced_body_back m (omega (arith, h)) b
+        (subst (IsStmtKind kind_of m (IsFormedStmt kind_of m)) (ap out-StmtKind (sym (kind.rolls-Braced b)) ∙ out-roll-StmtKind (s.StmtKind-F.Braced b)) g.kind)
+
+    body_back : (m : ℕ) → suc m ≤ n → (x : Stmt) → IsFormedStmt kind_of m x → Bodies x
+    body_back m h x g = of (braced_or m x g)
+      where
+        of : IsBraced x ⊎ NoneBegins a_left_brace (stmt_spelling x) → Bodies x
+        of (inl b) = subst Bodies (sym b.1) (block_in m h b.0 (subst (IsFormedStmt kind_of m) b.1 g))
+        of (inr first) = unbraced_back m h x g first
+
+    -- ---- A condition in parentheses, and its body
+
+    abbrev paren_said : Expr → Stmt → ℕ → ℕ → Open
+    paren_said e x l r k = token l (want.Mark MARK_LEFT_PAREN) (of_expr kind_of bytes_of e and token r (want.Mark MARK_RIGHT_PAREN) (of_body kind_of bytes_of x and k))
+
+    arm_back : (m : ℕ) → suc m ≤ n → (e : Expr) (x : Stmt) (l r : ℕ) → IsFormedExpr kind_of m e → IsFormedStmt kind_of m x →
+        Back kind_of bytes_of (λ d. lang.arm below d level (inner d)) (arm_of e (ended_from x) l r) (paren_said e x l r)
+    unfolding lang.arm
+    arm_back m h e x l r g i = back_token kind_of bytes_of (hears_mark kind_of bytes_of MARK_LEFT_PAREN l) (back_then kind_of bytes_of (expr (suc level) m e g)
+        (back_token kind_of bytes_of (hears_mark kind_of bytes_of MARK_RIGHT_PAREN r) (back_then kind_of bytes_of (body_back m h x i) (back_pure kind_of bytes_of (arm_of e (ended_from x) l r)))))
+
+    -- ---- `if` (6.8.4.1)
+
+    abbrev arms_at : Steps → ℕ → Arms
+    arms_at ss key = record { list = arms_done ss; marks = marks_done ss ++ key ∷ [] }
+
+    abbrev key_of : Steps → Branch → ℕ
+    key_of [] last = last.key
+    key_of (x ∷ ss) last = x.0.key
+
+    -- Behind the first `if`.
+    abbrev rest_said : Steps → Branch → Open
+    rest_said [] last k = paren_said last.cond last.body last.left last.right k
+    rest_said (x ∷ ss) last k = paren_said x.0.cond x.0.body x.0.left x.0.right (token x.1 (want.Key KEY_ELSE) (token (key_of ss last) (want.Key KEY_IF) (rest_said ss last k)))
+
+    rest_is : (ss : Steps) (last : Branch) (k : Said) → steps_said kind_of bytes_of ss (arm_said kind_of bytes_of last k) ≡ token (key_of ss last) (want.Key KEY_IF) (rest_said ss last k)
+    rest_is [] last k = refl
+    rest_is (x ∷ ss) last k = ap (λ (z : Said). arm_said kind_of bytes_of x.0 (token x.1 (want.Key KEY_ELSE) z)) (rest_is ss last k)
+
+    behind_again : (b : Bool) → b ≡ false → (arms : Arms) (e key : ℕ) →
+        Back kind_of bytes_of (λ d. lang.behind_arm below d level (inner d) b arms) (Again (arms_to arms (e ∷ key ∷ []))) (λ k. token e (want.Key KEY_ELSE) (token key (want.Key KEY_IF) k))
+    unfolding lang.else_part lang.next_arm
+    behind_again true f arms e key = never (sym f)
+    behind_again false f arms e key = back_left kind_of bytes_of (back_token kind_of bytes_of (hears_key kind_of bytes_of KEY_ELSE e)
+        (back_left kind_of bytes_of (back_token kind_of bytes_of (hears_key kind_of bytes_of KEY_IF key) (back_pure kind_of bytes_of (Again (arms_to arms (e ∷ key ∷ [])))))))
+
+    behind_other : (m : ℕ) → suc m ≤ n → (b : Bool) → b ≡ false → (arms : Arms) (e : ℕ) (x : Stmt) → IsFormedStmt kind_of m x → (IsIf x → ⊥) →
+        Back kind_of bytes_of (λ d. lang.behind_arm below d level (inner d) b arms) (Done (with_else arms e (ended_from x))) (λ k. token e (want.Key KEY_ELSE) (of_body kind_of bytes_of x and k))
+    unfolding lang.else_part lang.last_body
+    behind_other m h true f arms e x g i = never (sym f)
+    behind_other m h false f arms e x g i = back_left kind_of bytes_of (back_token kind_of bytes_of (hears_key kind_of bytes_of KEY_ELSE e)
+        (back_right kind_of bytes_of (back_without an_if (λ k ts scopes end f. begins_no_if m x g i k.symbols ts scopes f.0)
+        (back_then kind_of bytes_of (body_back m h x g) (back_pure kind_of bytes_of (Done (with_else arms e (ended_from x))))))))
+
+    behind_none : (b : Bool) (arms : Arms) → Back kind_of bytes_of (λ d. lang.behind_arm below d level (inner d) b arms) (Done (without_else arms)) (λ k. k)
+    behind_none true arms = back_pure kind_of bytes_of (Done (without_else arms))
+    behind_none false arms = back_right kind_of bytes_of (back_pure kind_of bytes_of (Done (without_else arms)))
+
+    abbrev IsStep : ℕ → Branch × ℕ → Type 0
+    IsStep m x = (IsFormedExpr kind_of m x.0.cond × IsFormedStmt kind_of m x.0.body) × (ends_in_if x.0.body ≡ false)
+
+    abbrev IsLast : ℕ → Branch → Tail → Type 0
+    IsLast m last None = IsFormedExpr kind_of m last.cond × IsFormedStmt kind_of m last.body
+    IsLast m last (Some t) = (IsFormedExpr kind_of m last.cond × IsFormedStmt kind_of m last.body) × (ends_in_if last.body ≡ false) × IsFormedStmt kind_of m t.1 × (IsIf t.1 → ⊥)
+
+    turn_again : (m : ℕ) → suc m ≤ n → (done : Steps) (x : Branch × ℕ) (key : ℕ) → IsStep m x →
+        Back kind_of bytes_of (λ d. lang.arm_turn below d level (inner d) (arms_at done x.0.key)) (Again (arms_at (done ++ x ∷ []) key))
+        (λ k. paren_said x.0.cond x.0.body x.0.left x.0.right (token x.1 (want.Key KEY_ELSE) (token key (want.Key KEY_IF) k)))
+    unfolding lang.arm_turn
+    turn_again m h done x key g =
+        let arms = with_arm (arms_at done x.0.key) (arm_of x.0.cond (ended_from x.0.body) x.0.left x.0.right) in
+        let same : arms_to arms (x.1 ∷ key ∷ []) ≡ arms_at (done ++ x ∷ []) key =
+        ap (λ z. record { list = z; marks = ((marks_done done ++ x.0.key ∷ []) ++ x.0.left ∷ x.0.right ∷ []) ++ x.1 ∷ key ∷ [] }) (sym (arms_snoc done x)) ∙
+        ap (λ z. record { list = arms_done (done ++ x ∷ []); marks = z }) (sym (marks_snoc done x key)) in
+        back_same kind_of bytes_of (ap (λ z. Again z) same) (λ k. refl)
+        (back_then kind_of bytes_of (arm_back m h x.0.cond x.0.body x.0.left x.0.right g.0.0 g.0.1) (behind_again (ends_in_if x.0.body) g.1 arms x.1 key))
+
+    turn_last : (m : ℕ) → suc m ≤ n → (done : Steps) (last : Branch) (tail : Tail) → IsLast m last tail →
+        Back kind_of bytes_of (λ d. lang.arm_turn below d level (inner d) (arms_at done last.key)) (Done (kinded_of (if_tree done last tail)))
+        (λ k. paren_said last.cond last.body last.left last.right (tail_said kind_of bytes_of tail k))
+    unfolding lang.arm_turn
+    turn_last m h done last None g =
+        let arms = with_arm (arms_at done last.key) (arm_of last.cond (ended_from last.body) last.left last.right) in
+        let same : without_else arms ≡ kinded_of (if_tree done last None) =
+        ap (λ z. record { kind = kind.If (arms_in done last) None z; dangles = true }) (append_assoc (marks_done done) (last.key ∷ []) (last.left ∷ last.right ∷ [])) ∙
+        ap (λ z. record { kind = if_tree done last None; dangles = z }) (sym (fold.stmt_kind_if_folds ends_steps (arms_in done last) None (marks_in done last None))) in
+        back_same kind_of bytes_of (ap (λ z. Done z) same) (λ k. refl)
+        (back_then kind_of bytes_of (arm_back m h last.cond last.body last.left last.right g.0 g.1) (behind_none (ends_in_if last.body) arms))
+    turn_last m h done last (Some t) g =
+        let arms = with_arm (arms_at done last.key) (arm_of last.cond (ended_from last.body) last.left last.right) in
+        let same : with_else arms t.0 (ended_from t.1) ≡ kinded_of (if_tree done last (Some t)) =
+        ap (λ z. record { kind = kind.If (arms_in done last) (Some t.1) z; dangles = ends_in_if t.1 })
+            (append_assoc (marks_done done ++ last.key ∷ []) (last.left ∷ last.right ∷ []) (t.0 ∷ []) ∙ append_assoc (marks_done done) (last.key ∷ []) (last.left ∷ last.right ∷ t.0 ∷ [])) ∙
+        ap (λ z. record { kind = if_tree done last (Some t); dangles = z }) (ends_stmt t.1 ∙ sym (fold.stmt_kind_if_folds ends_steps (arms_in done last) (Some t.1) (marks_in done last (Some t)))) in
+        back_same kind_of bytes_of (ap (λ z. Done z) same) (λ k. refl)
+        (back_then kind_of bytes_of (arm_back m h last.cond last.body last.left last.right g.0.0 g.0.1) (behind_other m h (ends_in_if last.body) g.1 arms t.0 t.1 g.2 g.3))
+
+    more_arms_back : (m : ℕ) → suc m ≤ n → (done ss : Steps) (last : Branch) (tail : Tail) → Every (IsStep m) ss → IsLast m last tail →
+        Spins kind_of bytes_of (λ t e. repeat t (lang.arm_turn below e level (inner e)) (arms_at done (key_of ss last))) (kinded_of (if_tree (done ++ ss) last tail)) (λ k. rest_said ss last (tail_said kind_of bytes_of tail k))
+    more_arms_back m h done [] last tail g i = spins_same kind_of bytes_of (ap (λ (z : Steps). kinded_of (if_tree z last tail)) (sym (append-nil done))) (λ k. refl)
+        (repeat_done kind_of bytes_of (λ e. lang.arm_turn below e level (inner e)) (turn_last m h done last tail i))
+    more_arms_back m h done (x ∷ ss) last tail g i = spins_same kind_of bytes_of (ap (λ (z : Steps). kinded_of (if_tree z last tail)) (append_assoc done (x ∷ []) ss)) (λ k. refl)
+        (repeat_again kind_of bytes_of (λ e. lang.arm_turn below e level (inner e)) (turn_again m h done x (key_of ss last) g.0) (more_arms_back m h (done ++ x ∷ []) ss last tail g.1 i))
+
+    free_steps : (m : ℕ) (ss : Steps) → Every (IsStep m) ss → Every (λ (x : Branch × ℕ). IsFreeBranch kind_of bytes_of x.0) ss
+    free_steps m [] g = tt
+    free_steps m (x ∷ ss) g = ((free_expr m x.0.cond g.0.0.0, free_stmt m x.0.body g.0.0.1), free_steps m ss g.1)
+
+    free_last : (m : ℕ) (last : Branch) (tail : Tail) → IsLast m last tail → IsFreeBranch kind_of bytes_of last × IsFreeTail kind_of bytes_of tail
+    free_last m last None g = ((free_expr m last.cond g.0, free_stmt m last.body g.1), tt)
+    free_last m last (Some t) g = ((free_expr m last.cond g.0.0, free_stmt m last.body g.0.1), free_stmt m t.1 g.2)
+
+    abbrev Ifs : StmtKind → Type 0
+    Ifs x = Back kind_of bytes_of (λ d. lang.if_ below d level (inner d)) (kinded_of x) (λ k. of_kind kind_of bytes_of x and k)
+
+    if_by : (m : ℕ) → suc m ≤ n → (ss : Steps) (last : Branch) (tail : Tail) → Every (IsStep m) ss → IsLast m last tail → Ifs (if_tree ss last tail)
+    unfolding lang.if_ lang.all_arms
+    if_by m h ss last tail g i =
+        let f = free_last m last tail i in
+        back_from {before = λ k. opens (steps_said kind_of bytes_of ss (arm_said kind_of bytes_of last (tail_said kind_of bytes_of tail (closes k))))}
+        (λ k ts scopes end x. flat_if kind_of bytes_of ss last tail (free_steps m ss g) f.0 f.1 k ts scopes end x)
+        (back_same kind_of bytes_of refl (λ k. ap opens (rest_is ss last (tail_said kind_of bytes_of tail (closes k))))
+        (back_token kind_of bytes_of (hears_key kind_of bytes_of KEY_IF (key_of ss last)) (back_scope (back_loop kind_of bytes_of (more_arms_back m h [] ss last tail g i)))))
+
+    -- What is asked of the arms, by branches.
+    steps_asked : (m : ℕ) (ss : Steps) (last : Branch) → Every (λ (x : Expr × Stmt). IsFormedExpr kind_of m x.0) (arms_in ss last) → Every (λ (x : Expr × Stmt). IsFormedStmt kind_of m x.1) (arms_in ss last) →
+        (other : Option Stmt) → ((before after : List (Expr × Stmt)) (c : Expr) (b : Stmt) → arms_in ss last ≡ before ++ (c, b) ∷ after → (after ≢ []) ⊎ IsSome other → ends_in_if b ≡ false) →
+        Every (IsStep m) ss × (IsFormedExpr kind_of m last.cond × IsFormedStmt kind_of m last.body) × (IsSome other → ends_in_if last.body ≡ false)
+    steps_asked m [] last g h other c = (tt, (g.0, h.0), λ i. c [] [] last.cond last.body refl (inr i))
+    steps_asked m (x ∷ ss) last g h other c =
+        let r = steps_asked m ss last g.1 h.1 other (λ before after e b same i. c (arm_in x.0 ∷ before) after e b (ap (λ (z : List (Expr × Stmt)). arm_in x.0 ∷ z) same) i) in
+        ((((g.0, h.0), c [] (arms_in ss last) x.0.cond x.0.body refl (inl (arms_some ss last))), r.0), r.1, r.2)
+
+    if_asked : (m : ℕ) → suc m ≤ n → (ss : Steps) (last : Branch) (tail : Tail) → IsIfStatement kind_of m (IsFormedStmt kind_of m) (arms_in ss last) (tail_stmt tail) (marks_in ss last tail) → Ifs (if_tree ss last tail)
+    if_asked m h ss last tail g =
+        let r = steps_asked m ss last (every_of (λ (x : Expr × Stmt). IsFormedExpr kind_of m x.0) (arms_in ss last) g.conditions) (every_of (λ (x : Expr × Stmt). IsFormedStmt kind_of m x.1) (arms_in ss last) g.bodies) (tail_stmt tail) g.closed in
+        if_by m h ss last tail r.0 (last_asked tail r.1 r.2 g.otherwise)
+      where
+        last_asked : (tail : Tail) → IsFormedExpr kind_of m last.cond × IsFormedStmt kind_of m last.body → (IsSome (tail_stmt tail) → ends_in_if last.body ≡ false) →
+            IfSome (tail_stmt tail) (λ stmt. IsFormedStmt kind_of m stmt × ¬ IsIf stmt) → IsLast m last tail
+        last_asked None g c o = g
+        last_asked (Some t) g c o = (g, c refl, o.0, o.1)
+
+    if_back : (m : ℕ) → suc m ≤ n → (arms : List (Expr × Stmt)) (other : Option Stmt) (marks : List ℕ) → IsIfStatement kind_of m (IsFormedStmt kind_of m) arms other marks → Ifs (kind.If arms other marks)
+    if_back m h arms other marks g =
+        by_chain (λ bs o ms. IsIfStatement kind_of m (IsFormedStmt kind_of m) bs o ms → Ifs (kind.If bs o ms)) (if_asked m h) arms other marks g.some g.fixed g
