@@ -382,3 +382,148 @@ module _ (kind_of : ℕ → Option Kind) (bytes_of : ℕ → List ℕ) where
     if_back : (m : ℕ) → suc m ≤ n → (arms : List (Expr × Stmt)) (other : Option Stmt) (marks : List ℕ) → IsIfStatement kind_of m (IsFormedStmt kind_of m) arms other marks → Ifs (kind.If arms other marks)
     if_back m h arms other marks g =
         by_chain (λ bs o ms. IsIfStatement kind_of m (IsFormedStmt kind_of m) bs o ms → Ifs (kind.If bs o ms)) (if_asked m h) arms other marks g.some g.fixed g
+
+    -- ---- `switch` (6.8.4.2), and loops (6.8.5)
+
+    abbrev Turns : StmtKind → Type 0
+    Turns x = (labels : List Mark) → Back kind_of bytes_of (λ d. lang.turn below d level (inner d) labels) (Done (ended_of labels (kinded_of x))) (λ k. of_kind kind_of bytes_of x and k)
+
+    turn_of : (x : StmtKind) (y : Kinded) → y ≡ kinded_of x → Back kind_of bytes_of (λ d. lang.kinded below d level (inner d)) y (λ k. of_kind kind_of bytes_of x and k) → Turns x
+    unfolding lang.turn lang.other_turn lang.keyed_turn lang.kinded_turn
+    turn_of x y e p labels = back_right kind_of bytes_of (back_left kind_of bytes_of (back_right kind_of bytes_of (back_right kind_of bytes_of
+        (back_then kind_of bytes_of (back_same kind_of bytes_of e (λ k. refl) p) (back_pure kind_of bytes_of (Done (ended_of labels (kinded_of x))))))))
+
+    value_back : (m : ℕ) (e : Expr) (c : ℕ) → IsFormedExpr kind_of m e → Turns (kind.Value e (c ∷ []))
+    unfolding lang.turn lang.other_turn lang.value_turn lang.value
+    value_back m e c g labels = back_right kind_of bytes_of (back_right kind_of bytes_of
+        (back_same kind_of bytes_of (ap (λ z. Done (record { stmt = stmt_of labels (kind.Value e (c ∷ [])); dangles = z })) (sym (fold.stmt_kind_value_folds ends_steps e (c ∷ [])))) (law.value_before kind_of bytes_of e c)
+        (back_then kind_of bytes_of (back_then kind_of bytes_of (expr level m e g) (back_token kind_of bytes_of (hears_mark kind_of bytes_of MARK_SEMICOLON c) (back_pure kind_of bytes_of (closed (kind.Value e (c ∷ []))))))
+        (back_pure kind_of bytes_of (Done (ended_of labels (closed (kind.Value e (c ∷ [])))))))))
+
+    empty_back : (c : ℕ) → Turns (kind.Empty (c ∷ []))
+    unfolding lang.kinded lang.empty
+    empty_back c = turn_of (kind.Empty (c ∷ [])) (closed (kind.Empty (c ∷ []))) (ap (λ z. record { kind = kind.Empty (c ∷ []); dangles = z }) (sym (fold.stmt_kind_empty_folds ends_steps (c ∷ []))))
+        (back_left kind_of bytes_of (back_same kind_of bytes_of refl (law.empty_before kind_of bytes_of c) (back_token kind_of bytes_of (hears_mark kind_of bytes_of MARK_SEMICOLON c) (back_pure kind_of bytes_of (closed (kind.Empty (c ∷ [])))))))
+
+    braced_turn : (m : ℕ) → suc m ≤ n → (b : Block) → IsFormedBlock kind_of m b → Turns (kind.Braced b)
+    unfolding lang.kinded
+    braced_turn m h b g = turn_of (kind.Braced b) (closed (kind.Braced b)) (ap (λ z. record { kind = kind.Braced b; dangles = z }) (sym (fold.stmt_kind_braced_folds ends_steps b)))
+        (back_right kind_of bytes_of (back_left kind_of bytes_of (braced_back m h b g)))
+
+    if_turn : (x : StmtKind) → Ifs x → Turns x
+    unfolding lang.kinded
+    if_turn x p = turn_of x (kinded_of x) refl (back_right kind_of bytes_of (back_right kind_of bytes_of (back_left kind_of bytes_of p)))
+
+    while_back : (m : ℕ) → suc m ≤ n → (e : Expr) (x : Stmt) (a l r : ℕ) → IsFormedExpr kind_of m e → IsFormedStmt kind_of m x → Turns (kind.While e x (a ∷ l ∷ r ∷ []))
+    unfolding lang.kinded lang.while_ lang.while_inside
+    while_back m h e x a l r g i =
+        let y = arm_of e (ended_from x) l r in
+        turn_of (kind.While e x (a ∷ l ∷ r ∷ [])) (while_of a y) (ap (λ z. record { kind = kind.While e x (a ∷ l ∷ r ∷ []); dangles = z }) (ends_stmt x ∙ sym (fold.stmt_kind_while_folds ends_steps e x (a ∷ l ∷ r ∷ []))))
+        (back_right kind_of bytes_of (back_right kind_of bytes_of (back_right kind_of bytes_of (back_left kind_of bytes_of (back_same kind_of bytes_of refl (law.while_before kind_of bytes_of e x a l r)
+        (back_token kind_of bytes_of (hears_key kind_of bytes_of KEY_WHILE a) (back_scope (back_then kind_of bytes_of (arm_back m h e x l r g i) (back_pure kind_of bytes_of (while_of a y))))))))))
+
+    switch_back : (m : ℕ) → suc m ≤ n → (e : Expr) (x : Stmt) (a l r : ℕ) → IsFormedExpr kind_of m e → IsFormedStmt kind_of m x → Turns (kind.Switch e x (a ∷ l ∷ r ∷ []))
+    unfolding lang.kinded lang.switch_ lang.switch_inside
+    switch_back m h e x a l r g i =
+        let y = arm_of e (ended_from x) l r in
+        turn_of (kind.Switch e x (a ∷ l ∷ r ∷ [])) (switch_of a y) (ap (λ z. record { kind = kind.Switch e x (a ∷ l ∷ r ∷ []); dangles = z }) (ends_stmt x ∙ sym (fold.stmt_kind_switch_folds ends_steps e x (a ∷ l ∷ r ∷ []))))
+        (back_right kind_of bytes_of (back_right kind_of bytes_of (back_right kind_of bytes_of (back_right kind_of bytes_of (back_right kind_of bytes_of (back_right kind_of bytes_of (back_left kind_of bytes_of
+        (back_same kind_of bytes_of refl (law.switch_before kind_of bytes_of e x a l r)
+        (back_token kind_of bytes_of (hears_key kind_of bytes_of KEY_SWITCH a) (back_scope (back_then kind_of bytes_of (arm_back m h e x l r g i) (back_pure kind_of bytes_of (switch_of a y)))))))))))))
+
+    do_back : (m : ℕ) → suc m ≤ n → (x : Stmt) (e : Expr) (a w l r c : ℕ) → IsFormedStmt kind_of m x → IsFormedExpr kind_of m e → Turns (kind.DoWhile x e (a ∷ w ∷ l ∷ r ∷ c ∷ []))
+    unfolding lang.kinded lang.do_ lang.do_inside
+    do_back m h x e a w l r c g i =
+        let marks : List ℕ = a ∷ w ∷ l ∷ r ∷ c ∷ [] in
+        turn_of (kind.DoWhile x e marks) (do_of (ended_from x) e marks) (ap (λ z. record { kind = kind.DoWhile x e marks; dangles = z }) (sym (fold.stmt_kind_do_while_folds ends_steps x e marks)))
+        (back_right kind_of bytes_of (back_right kind_of bytes_of (back_right kind_of bytes_of (back_right kind_of bytes_of (back_left kind_of bytes_of (back_same kind_of bytes_of refl (law.do_while_before kind_of bytes_of x e a w l r c)
+        (back_token kind_of bytes_of (hears_key kind_of bytes_of KEY_DO a) (back_scope (back_then kind_of bytes_of (body_back m h x g) (back_token kind_of bytes_of (hears_key kind_of bytes_of KEY_WHILE w)
+        (back_token kind_of bytes_of (hears_mark kind_of bytes_of MARK_LEFT_PAREN l) (back_then kind_of bytes_of (expr (suc level) m e i) (back_token kind_of bytes_of (hears_mark kind_of bytes_of MARK_RIGHT_PAREN r)
+        (back_token kind_of bytes_of (hears_mark kind_of bytes_of MARK_SEMICOLON c) (back_pure kind_of bytes_of (do_of (ended_from x) e marks))))))))))))))))
+
+    abbrev Inits : ForInit → Type 0
+    Inits x = Back kind_of bytes_of (λ d. lang.for_init below d level (inner d)) x (λ k. of_for_init kind_of bytes_of x and k)
+
+    init_back : (m : ℕ) (x : ForInit) → IsForInit kind_of m x → Inits x
+    unfolding lang.for_init lang.no_init lang.value_init lang.declared_init
+    init_back m (init_.Nothing marks) g = by_one (λ z. Inits (init_.Nothing z)) (λ c. back_left kind_of bytes_of (back_same kind_of bytes_of refl (law.no_init_before kind_of bytes_of c)
+        (back_token kind_of bytes_of (hears_mark kind_of bytes_of MARK_SEMICOLON c) (back_pure kind_of bytes_of (init_.Nothing (c ∷ [])))))) marks g
+    init_back m (init_.Value e marks) g = by_one (λ z. Inits (init_.Value e z)) (λ c. back_right kind_of bytes_of (back_left kind_of bytes_of (back_same kind_of bytes_of refl (law.value_init_before kind_of bytes_of e c)
+        (back_then kind_of bytes_of (expr (suc level) m e g.0) (back_token kind_of bytes_of (hears_mark kind_of bytes_of MARK_SEMICOLON c) (back_pure kind_of bytes_of (init_.Value e (c ∷ [])))))))) marks g.1
+    init_back m (init_.Declare x) g = back_right kind_of bytes_of (back_right kind_of bytes_of (back_same kind_of bytes_of refl (law.declared_init_before kind_of bytes_of x)
+        (back_then kind_of bytes_of (declaration (suc level) m x g) (back_pure kind_of bytes_of (init_.Declare x)))))
+
+    maybe_back : (m number : ℕ) (x : Option Expr) (c : ℕ) → IfSome x (IsFormedExpr kind_of m) →
+        Back kind_of bytes_of (λ d. lang.maybe_to below d level (inner d) number) (maybe_expr x c) (λ k. maybe kind_of bytes_of x (token c (want.Mark number) k))
+    unfolding lang.maybe_to lang.nothing_to lang.expr_to
+    maybe_back m number None c g = back_left kind_of bytes_of (back_token kind_of bytes_of (hears_mark kind_of bytes_of number c) (back_pure kind_of bytes_of (maybe_expr None c)))
+    maybe_back m number (Some e) c g = back_right kind_of bytes_of (back_then kind_of bytes_of (expr (suc level) m e g) (back_token kind_of bytes_of (hears_mark kind_of bytes_of number c) (back_pure kind_of bytes_of (maybe_expr (Some e) c))))
+
+    for_back : (m : ℕ) → suc m ≤ n → (i : ForInit) (c t : Option Expr) (x : Stmt) (a l p r : ℕ) → IsForInit kind_of m i → IfSome c (IsFormedExpr kind_of m) → IfSome t (IsFormedExpr kind_of m) → IsFormedStmt kind_of m x →
+        Turns (kind.For i c t x (a ∷ l ∷ p ∷ r ∷ []))
+    unfolding lang.kinded lang.for_ lang.for_inside
+    for_back m h i c t x a l p r g u v w =
+        let marks : List ℕ = a ∷ l ∷ p ∷ r ∷ [] in
+        let value = for_of (for_head a l i (maybe_expr c p) (maybe_expr t r)) (ended_from x) in
+        turn_of (kind.For i c t x marks) value (ap (λ z. record { kind = kind.For i c t x marks; dangles = z }) (ends_stmt x ∙ sym (fold.stmt_kind_for_folds ends_steps i c t x marks)))
+        (back_right kind_of bytes_of (back_right kind_of bytes_of (back_right kind_of bytes_of (back_right kind_of bytes_of (back_right kind_of bytes_of (back_left kind_of bytes_of
+        (back_same kind_of bytes_of refl (law.for_before kind_of bytes_of i c t x a l p r)
+        (back_token kind_of bytes_of (hears_key kind_of bytes_of KEY_FOR a) (back_scope (back_token kind_of bytes_of (hears_mark kind_of bytes_of MARK_LEFT_PAREN l) (back_then kind_of bytes_of (init_back m i g)
+        (back_then kind_of bytes_of (maybe_back m MARK_SEMICOLON c p u) (back_then kind_of bytes_of (maybe_back m MARK_RIGHT_PAREN t r v) (back_then kind_of bytes_of (body_back m h x w) (back_pure kind_of bytes_of value)))))))))))))))
+
+    -- ---- Jumps (6.8.6)
+
+    break_back : (a c : ℕ) → Turns (kind.Break (a ∷ c ∷ []))
+    unfolding lang.kinded lang.break_
+    break_back a c = turn_of (kind.Break (a ∷ c ∷ [])) (closed (kind.Break (a ∷ c ∷ []))) (ap (λ z. record { kind = kind.Break (a ∷ c ∷ []); dangles = z }) (sym (fold.stmt_kind_break_folds ends_steps (a ∷ c ∷ []))))
+        (back_right kind_of bytes_of (back_right kind_of bytes_of (back_right kind_of bytes_of (back_right kind_of bytes_of (back_right kind_of bytes_of (back_right kind_of bytes_of (back_right kind_of bytes_of (back_left kind_of bytes_of
+        (back_same kind_of bytes_of refl (law.break_before kind_of bytes_of a c)
+        (back_token kind_of bytes_of (hears_key kind_of bytes_of KEY_BREAK a) (back_token kind_of bytes_of (hears_mark kind_of bytes_of MARK_SEMICOLON c) (back_pure kind_of bytes_of (closed (kind.Break (a ∷ c ∷ [])))))))))))))))
+
+    continue_back : (a c : ℕ) → Turns (kind.Continue (a ∷ c ∷ []))
+    unfolding lang.kinded lang.continue_
+    continue_back a c = turn_of (kind.Continue (a ∷ c ∷ [])) (closed (kind.Continue (a ∷ c ∷ []))) (ap (λ z. record { kind = kind.Continue (a ∷ c ∷ []); dangles = z }) (sym (fold.stmt_kind_continue_folds ends_steps (a ∷ c ∷ []))))
+        (back_right kind_of bytes_of (back_right kind_of bytes_of (back_right kind_of bytes_of (back_right kind_of bytes_of (back_right kind_of bytes_of (back_right kind_of bytes_of (back_right kind_of bytes_of (back_right kind_of bytes_of (back_left kind_of bytes_of
+        (back_same kind_of bytes_of refl (law.continue_before kind_of bytes_of a c)
+        (back_token kind_of bytes_of (hears_key kind_of bytes_of KEY_CONTINUE a) (back_token kind_of bytes_of (hears_mark kind_of bytes_of MARK_SEMICOLON c) (back_pure kind_of bytes_of (closed (kind.Continue (a ∷ c ∷ []))))))))))))))))
+
+    goto_back : (x a c : ℕ) → Turns (kind.Goto x (a ∷ c ∷ []))
+    unfolding lang.kinded lang.goto_
+    goto_back x a c = turn_of (kind.Goto x (a ∷ c ∷ [])) (closed (kind.Goto x (a ∷ c ∷ []))) (ap (λ z. record { kind = kind.Goto x (a ∷ c ∷ []); dangles = z }) (sym (fold.stmt_kind_goto_folds ends_steps x (a ∷ c ∷ []))))
+        (back_right kind_of bytes_of (back_right kind_of bytes_of (back_right kind_of bytes_of (back_right kind_of bytes_of (back_right kind_of bytes_of (back_right kind_of bytes_of (back_right kind_of bytes_of (back_right kind_of bytes_of (back_right kind_of bytes_of
+        (back_left kind_of bytes_of (back_same kind_of bytes_of refl (law.goto_before kind_of bytes_of x a c)
+        (back_token kind_of bytes_of (hears_key kind_of bytes_of KEY_GOTO a) (back_token kind_of bytes_of (hears_any kind_of bytes_of x) (back_token kind_of bytes_of (hears_mark kind_of bytes_of MARK_SEMICOLON c)
+        (back_pure kind_of bytes_of (closed (kind.Goto x (a ∷ c ∷ []))))))))))))))))))
+
+    return_rule : (m : ℕ) (x : Option Expr) (a c : ℕ) → IfSome x (IsFormedExpr kind_of m) →
+        Back kind_of bytes_of (λ d. lang.return_ below d level (inner d)) (closed (kind.Return x (a ∷ c ∷ []))) (λ k. token a (want.Key KEY_RETURN) (maybe kind_of bytes_of x (token c (want.Mark MARK_SEMICOLON) k)))
+    unfolding lang.return_ lang.return_nothing lang.return_value
+    return_rule m None a c g = back_token kind_of bytes_of (hears_key kind_of bytes_of KEY_RETURN a) (back_left kind_of bytes_of
+        (back_token kind_of bytes_of (hears_mark kind_of bytes_of MARK_SEMICOLON c) (back_pure kind_of bytes_of (closed (kind.Return None (a ∷ c ∷ []))))))
+    return_rule m (Some e) a c g = back_token kind_of bytes_of (hears_key kind_of bytes_of KEY_RETURN a) (back_right kind_of bytes_of
+        (back_then kind_of bytes_of (expr level m e g) (back_token kind_of bytes_of (hears_mark kind_of bytes_of MARK_SEMICOLON c) (back_pure kind_of bytes_of (closed (kind.Return (Some e) (a ∷ c ∷ [])))))))
+
+    return_back : (m : ℕ) (x : Option Expr) (a c : ℕ) → IfSome x (IsFormedExpr kind_of m) → Turns (kind.Return x (a ∷ c ∷ []))
+    unfolding lang.kinded
+    return_back m x a c g = turn_of (kind.Return x (a ∷ c ∷ [])) (closed (kind.Return x (a ∷ c ∷ []))) (ap (λ z. record { kind = kind.Return x (a ∷ c ∷ []); dangles = z }) (sym (fold.stmt_kind_return_folds ends_steps x (a ∷ c ∷ []))))
+        (back_right kind_of bytes_of (back_right kind_of bytes_of (back_right kind_of bytes_of (back_right kind_of bytes_of (back_right kind_of bytes_of (back_right kind_of bytes_of (back_right kind_of bytes_of (back_right kind_of bytes_of (back_right kind_of bytes_of
+        (back_right kind_of bytes_of (back_same kind_of bytes_of refl (law.return_before kind_of bytes_of x a c) (return_rule m x a c g))))))))))))
+
+    -- ---- Statements (6.8)
+
+    kind_at_back : (m : ℕ) → suc m ≤ n → (x : OpenStmtKind) → IsStmtKind kind_of m (IsFormedStmt kind_of m) x → Turns (roll-StmtKind x)
+    kind_at_back m h (s.StmtKind-F.Empty marks) g = subst Turns (sym (kind.rolls-Empty marks)) (by_one (λ z. Turns (kind.Empty z)) empty_back marks g)
+    kind_at_back m h (s.StmtKind-F.Value e marks) g = subst Turns (sym (kind.rolls-Value e marks)) (by_one (λ z. Turns (kind.Value e z)) (λ c. value_back m e c g.0) marks g.1)
+    kind_at_back m h (s.StmtKind-F.Braced b) g = subst Turns (sym (kind.rolls-Braced b)) (braced_turn m h b g)
+    kind_at_back m h (s.StmtKind-F.If arms other marks) g = subst Turns (sym (kind.rolls-If arms other marks)) (if_turn (kind.If arms other marks) (if_back m h arms other marks g))
+    kind_at_back m h (s.StmtKind-F.While e x marks) g = subst Turns (sym (kind.rolls-While e x marks)) (by_three (λ z. Turns (kind.While e x z)) (λ a l r. while_back m h e x a l r g.0 g.1) marks g.2)
+    kind_at_back m h (s.StmtKind-F.DoWhile x e marks) g = subst Turns (sym (kind.rolls-DoWhile x e marks)) (by_five (λ z. Turns (kind.DoWhile x e z)) (λ a w l r c. do_back m h x e a w l r c g.0 g.1) marks g.2)
+    kind_at_back m h (s.StmtKind-F.For i c t x marks) g = subst Turns (sym (kind.rolls-For i c t x marks)) (by_four (λ z. Turns (kind.For i c t x z)) (λ a l p r. for_back m h i c t x a l p r g.0 g.1 g.2 g.3) marks g.4)
+    kind_at_back m h (s.StmtKind-F.Switch e x marks) g = subst Turns (sym (kind.rolls-Switch e x marks)) (by_three (λ z. Turns (kind.Switch e x z)) (λ a l r. switch_back m h e x a l r g.0 g.1) marks g.2)
+    kind_at_back m h (s.StmtKind-F.Break marks) g = subst Turns (sym (kind.rolls-Break marks)) (by_two (λ z. Turns (kind.Break z)) break_back marks g)
+    kind_at_back m h (s.StmtKind-F.Continue marks) g = subst Turns (sym (kind.rolls-Continue marks)) (by_two (λ z. Turns (kind.Continue z)) continue_back marks g)
+    kind_at_back m h (s.StmtKind-F.Goto x marks) g = subst Turns (sym (kind.rolls-Goto x marks)) (by_two (λ z. Turns (kind.Goto x z)) (goto_back x) marks g)
+    kind_at_back m h (s.StmtKind-F.Return x marks) g = subst Turns (sym (kind.rolls-Return x marks)) (by_two (λ z. Turns (kind.Return x z)) (λ a c. return_back m x a c g.0) marks g.1)
+
+    kind_back : (m : ℕ) → suc m ≤ n → (x : StmtKind) → IsStmtKind kind_of m (IsFormedStmt kind_of m) (out-StmtKind x) → Turns x
+    kind_back m h x g = subst Turns (roll-out-StmtKind x) (kind_at_back m h (out-StmtKind x) g)
