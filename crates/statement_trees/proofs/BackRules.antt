@@ -22,9 +22,10 @@ use Rattle.c_tree.specs.declared.tree.Stmt.{Stmt}
 use Rattle.c_tree.specs.declared.tree.StmtKind.{StmtKind, roll-StmtKind, out-StmtKind, roll-out-StmtKind}
 use Rattle.c_tree.specs.declared.tree.StmtKind.TheVariants as kind
 use Rattle.c_tree.specs.declared.tree.Mark.{Mark}
-use Rattle.c_tree.specs.Folds.{OpenStmtKind}
-use Rattle.c_tree.specs.Depths.{IsFormedExpr, IsFormedDeclaration}
-use Rattle.c_tree.specs.Statements.{ends_in_if, IsIf, IsLabel, IsForInit, IsBlock, IsIfStatement, IsStmtKind, IsStmt, IsFormedStmt, IsFormedBlock}
+use Rattle.c_tree.specs.Folds.{OpenStmtKind, OpenBlockItem}
+use Rattle.c_tree.specs.Expressions.{IsConstant}
+use Rattle.c_tree.specs.Depths.{inner_to, IsFormedExpr, IsFormedDeclaration}
+use Rattle.c_tree.specs.Statements.{ends_in_if, IsIf, IsLabel, IsForInit, IsBlock, IsIfStatement, IsStmtKind, IsStmt, IsBlockItem, IsFormedStmt, IsFormedBlock}
 use Rattle.c_tree.specs.Spell.{Symbols, stmt_spelling}
 use Rattle.c_tree.specs.declared.tree.Mark.TheVariants as mark_
 use Rattle.c_tree.specs.declared.tree.ForInit.{ForInit}
@@ -86,6 +87,12 @@ by_four Q q (a ∷ ms) e = by_three (λ z. Q (a ∷ z)) (q a) ms (omega (arith, 
 pub by_five : (Q : List ℕ → Type 0) → ((a b c d x : ℕ) → Q (a ∷ b ∷ c ∷ d ∷ x ∷ [])) → (ms : List ℕ) → length ms ≡ 5 → Q ms
 by_five Q q [] e = absurd (omega arith)
 by_five Q q (a ∷ ms) e = by_four (λ z. Q (a ∷ z)) (q a) ms (omega (arith, e))
+
+by_one_part : (Q : List Assign → List ℕ → Type 0) → ((a : Assign) → Q (a ∷ []) []) → (ps : List Assign) (ms : List ℕ) → length ps ≡ 1 → length ps ≡ 1 + length ms → Q ps ms
+by_one_part Q q [] ms e f = absurd (omega arith)
+by_one_part Q q (a ∷ []) [] e f = q a
+by_one_part Q q (a ∷ []) (m ∷ ms) e f = absurd (omega arith)
+by_one_part Q q (a ∷ b ∷ ps) ms e f = absurd (omega arith)
 
 module _ (kind_of : ℕ → Option Kind) (bytes_of : ℕ → List ℕ) where
   -- ---- Scopes
@@ -527,3 +534,64 @@ module _ (kind_of : ℕ → Option Kind) (bytes_of : ℕ → List ℕ) where
 
     kind_back : (m : ℕ) → suc m ≤ n → (x : StmtKind) → IsStmtKind kind_of m (IsFormedStmt kind_of m) (out-StmtKind x) → Turns x
     kind_back m h x g = subst Turns (roll-out-StmtKind x) (kind_at_back m h (out-StmtKind x) g)
+
+    -- Labels (6.8.1).
+    abbrev Labels : Mark → Type 0
+    Labels x = (labels : List Mark) → Back kind_of bytes_of (λ d. lang.turn below d level (inner d) labels) (Again (labels ++ x ∷ [])) (λ k. of_label kind_of bytes_of x and k)
+
+    case_back : (m : ℕ) (a : Assign) (b c : ℕ) → IsFormedConstant kind_of bytes_of m a → Labels (mark_.Case (sole a) (b ∷ c ∷ []))
+    unfolding lang.turn lang.other_turn lang.keyed_turn lang.case_turn
+    case_back m a b c g labels = back_right kind_of bytes_of (back_left kind_of bytes_of (back_left kind_of bytes_of (back_same kind_of bytes_of refl
+        (λ k. law.case_before kind_of bytes_of (sole a) b c k ∙ ap (token b (want.Key KEY_CASE)) (law.sole_before kind_of bytes_of a (token c (want.Mark MARK_COLON) k)))
+        (back_token kind_of bytes_of (hears_key kind_of bytes_of KEY_CASE b) (back_then kind_of bytes_of (constant level m a g) (back_token kind_of bytes_of (hears_mark kind_of bytes_of MARK_COLON c)
+        (back_pure kind_of bytes_of (Again (with_case labels b a c)))))))))
+
+    label_back : (m : ℕ) (x : Mark) → IsLabel kind_of m x → Labels x
+    unfolding lang.turn lang.other_turn lang.keyed_turn lang.name_turn lang.default_turn
+    label_back m (mark_.Label b marks) g = by_one (λ z. Labels (mark_.Label b z)) (λ c labels. back_left kind_of bytes_of (back_same kind_of bytes_of refl (law.label_before kind_of bytes_of b c)
+        (back_token kind_of bytes_of (hears_any kind_of bytes_of b) (back_token kind_of bytes_of (hears_mark kind_of bytes_of MARK_COLON c) (back_pure kind_of bytes_of (Again (with_label labels b c))))))) marks g
+    label_back m (mark_.Case e marks) g = by_two (λ z. Labels (mark_.Case e z)) (λ b c.
+        subst (λ z. IsConstant kind_of (inner_to kind_of m) z → Labels (mark_.Case z (b ∷ c ∷ []))) (roll-out-Expr e)
+            (by_one_part (λ ps ms. IsConstant kind_of (inner_to kind_of m) (roll-Expr (record { parts = ps; marks = ms })) → Labels (mark_.Case (roll-Expr (record { parts = ps; marks = ms })) (b ∷ c ∷ [])))
+            (λ a. case_back m a b c) (out-Expr e).parts (out-Expr e).marks g.0.single.one g.0.single.form.commas)
+            g.0) marks g.1
+    label_back m (mark_.Default b marks) g = by_one (λ z. Labels (mark_.Default b z)) (λ c labels. back_right kind_of bytes_of (back_left kind_of bytes_of (back_right kind_of bytes_of (back_left kind_of bytes_of
+        (back_same kind_of bytes_of refl (law.default_before kind_of bytes_of b c)
+        (back_token kind_of bytes_of (hears_key kind_of bytes_of KEY_DEFAULT b) (back_token kind_of bytes_of (hears_mark kind_of bytes_of MARK_COLON c) (back_pure kind_of bytes_of (Again (with_default labels b c)))))))))) marks g
+
+    more_labels_back : (m : ℕ) (x : StmtKind) → Turns x → (done labels : List Mark) → Every (IsLabel kind_of m) labels →
+        Spins kind_of bytes_of (λ t e. repeat t (lang.turn below e level (inner e)) done) (ended_of (done ++ labels) (kinded_of x)) (λ k. each (of_label kind_of bytes_of) labels (of_kind kind_of bytes_of x and k))
+    more_labels_back m x p done [] g = spins_same kind_of bytes_of (ap (λ (z : List Mark). ended_of z (kinded_of x)) (sym (append-nil done))) (λ k. refl) (repeat_done kind_of bytes_of (λ e. lang.turn below e level (inner e)) (p done))
+    more_labels_back m x p done (y ∷ labels) g = spins_same kind_of bytes_of (ap (λ (z : List Mark). ended_of z (kinded_of x)) (append_assoc done (y ∷ []) labels)) (λ k. refl)
+        (repeat_again kind_of bytes_of (λ e. lang.turn below e level (inner e)) (label_back m y g.0 done) (more_labels_back m x p (done ++ y ∷ []) labels g.1))
+
+    abbrev Stmts : Stmt → Type 0
+    Stmts x = Back kind_of bytes_of (λ d. lang.statement below d level (inner d)) (ended_from x) (λ k. of_stmt kind_of bytes_of x and k)
+
+    stmt_back : (m : ℕ) → suc m ≤ n → (x : Stmt) → IsStmt kind_of m (IsFormedStmt kind_of m) x → Stmts x
+    unfolding lang.statement
+    stmt_back m h x g = back_same kind_of bytes_of (ap (λ z. record { stmt = x; dangles = z }) (sym (ends_is x))) (law.stmt_before kind_of bytes_of x)
+        (back_loop kind_of bytes_of (more_labels_back m x.kind (kind_back m h x.kind g.kind) [] x.labels (every_of (IsLabel kind_of m) x.labels g.labels)))
+
+    pub formed_back : (depth : ℕ) → depth ≤ n → (x : Stmt) → IsFormedStmt kind_of depth x → Stmts x
+    unfolding IsFormedStmt
+    formed_back zero h x g = absurd g
+    formed_back (suc m) h x g = stmt_back m h x g
+
+    pub ended_back : (depth : ℕ) → depth ≤ n → (e : Ended) → IsFormedEnded kind_of bytes_of depth e → Back kind_of bytes_of (λ d. lang.statement below d level (inner d)) e (λ k. of_stmt kind_of bytes_of e.stmt and k)
+    ended_back depth h e g = back_same kind_of bytes_of (ap (λ z. record { stmt = e.stmt; dangles = z }) (sym g.1)) (λ k. refl) (formed_back depth h e.stmt g.0)
+
+    -- ---- Items of blocks (6.8.2)
+
+    abbrev Items : BlockItem → Type 0
+    Items x = Back kind_of bytes_of (λ d. lang.item below d level (inner d)) x (λ k. of_item kind_of bytes_of x and k)
+
+    item_at_back : (depth : ℕ) → depth ≤ n → (x : OpenBlockItem) → IsBlockItem kind_of depth (IsFormedStmt kind_of depth) x → Items (roll-BlockItem x)
+    unfolding lang.item lang.statement_item lang.declaration_item
+    item_at_back depth h (s.BlockItem-F.Declare x) g = subst Items (sym (item_.rolls-Declare x)) (back_right kind_of bytes_of (back_same kind_of bytes_of refl (law.declare_before kind_of bytes_of x)
+        (back_then kind_of bytes_of (declaration level depth x g) (back_pure kind_of bytes_of (item_.Declare x)))))
+    item_at_back depth h (s.BlockItem-F.Do x) g = subst Items (sym (item_.rolls-Do x)) (back_left kind_of bytes_of (back_same kind_of bytes_of refl (law.do_before kind_of bytes_of x)
+        (back_then kind_of bytes_of (formed_back depth h x g) (back_pure kind_of bytes_of (item_.Do x)))))
+
+    pub item_back : (depth : ℕ) → depth ≤ n → (x : BlockItem) → IsFormedItem kind_of bytes_of depth x → Items x
+    item_back depth h x g = subst Items (roll-out-BlockItem x) (item_at_back depth h (out-BlockItem x) g)

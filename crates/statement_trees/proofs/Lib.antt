@@ -3,3 +3,4 @@ pub mod FormsSay
 pub mod Chains
 pub mod FrontRules
 pub mod BackRules
+pub mod Whole
