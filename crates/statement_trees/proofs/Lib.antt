@@ -4,3 +4,4 @@ pub mod Chains
 pub mod FrontRules
 pub mod BackRules
 pub mod Whole
+pub mod Free
