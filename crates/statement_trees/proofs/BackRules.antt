@@ -67,7 +67,8 @@ use Rattle.statement_trees.specs.Trees.{stmt_steps_of, of_declaration, of_stmt, 
 use Rattle.statement_trees.specs.Forms.{IsFormedConstant, IsFormedItem, IsFormedEnded}
 use Rattle.statement_trees.proofs.FormsSay as law
 use Rattle.statement_trees.proofs.FormsSay.{opens, closes, maybe}
-use Rattle.statement_trees.proofs.Scoped.{IsFree, IsShut, unwrapped}
+use Rattle.statement_trees.specs.Innermost.{IsFree}
+use Rattle.statement_trees.proofs.Scoped.{IsShut, unwrapped}
 use Rattle.statement_trees.proofs.FrontRules.{ends_steps, ends_kind, ends_is, ends_stmt, arms_some}
 use Rattle.statement_trees.proofs.Chains.{Branch, Steps, Tail, arm_in, arms_done, marks_done, tail_stmt, arms_in, marks_in, if_tree, arm_said, steps_said, tail_said, arms_snoc, marks_snoc, by_chain, IsFreeBranch, IsFreeTail, flat_if}
 

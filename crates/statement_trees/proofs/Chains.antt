@@ -26,7 +26,8 @@ use Rattle.expression_trees.proofs.FormsSay.{same_said, said_of}
 use Rattle.expression_trees.proofs.Lists.{Every}
 use Rattle.statement_trees.specs.Trees.{stmt_steps_of, of_stmt, of_kind, of_body}
 use Rattle.statement_trees.proofs.FormsSay.{opens, closes}
-use Rattle.statement_trees.proofs.Scoped.{IsFree, IsSame, shut_scoped, shut_none, same_shut, same_step, nested_from_flat, flat_from_nested}
+use Rattle.statement_trees.specs.Innermost.{IsFree}
+use Rattle.statement_trees.proofs.Scoped.{IsSame, shut_scoped, shut_none, same_shut, same_step, nested_from_flat, flat_from_nested}
 
 -- A condition in parentheses, and its body, with the tokens `if`, `(` and `)`.
 pub record Branch : Type 0 where

@@ -26,7 +26,8 @@ use Rattle.expression_trees.specs.Trees.{of_expr}
 use Rattle.expression_trees.proofs.Lists.{Every, every_of}
 use Rattle.statement_trees.specs.Trees.{stmt_steps_of, of_declaration, of_stmt, of_block}
 use Rattle.statement_trees.specs.Forms.{IsFormedItem}
-use Rattle.statement_trees.proofs.Scoped.{IsFree, IsShut, free_none, free_then, free_shut, shut_scoped}
+use Rattle.statement_trees.specs.Innermost.{IsFree}
+use Rattle.statement_trees.proofs.Scoped.{IsShut, free_none, free_then, free_shut, shut_scoped}
 use Rattle.statement_trees.proofs.Chains.{Branch, Steps, Tail, arms_in, tail_stmt, marks_in, by_chain, IsFreeBranch, IsFreeTail, same_if, if_met}
 
 module _ (kind_of : ℕ → Option Kind) (bytes_of : ℕ → List ℕ)

@@ -68,7 +68,8 @@ use Rattle.statement_trees.specs.Trees.{stmt_steps_of, of_declaration, of_stmt, 
 use Rattle.statement_trees.specs.Forms.{IsFrom, twice, IsFormedConstant, IsFormedItem, IsFormedEnded}
 use Rattle.statement_trees.proofs.FormsSay as law
 use Rattle.statement_trees.proofs.FormsSay.{opens, closes, maybe}
-use Rattle.statement_trees.proofs.Scoped.{IsFree, IsShut, wrapped}
+use Rattle.statement_trees.specs.Innermost.{IsFree}
+use Rattle.statement_trees.proofs.Scoped.{IsShut, wrapped}
 use Rattle.statement_trees.proofs.Chains.{Branch, Steps, Tail, arm_in, arms_done, marks_done, tail_marks, tail_stmt, arms_in, marks_in, if_tree, arm_said, steps_said, tail_said, arms_snoc, marks_snoc, steps_snoc, by_chain, if_begins, IsFreeBranch, IsFreeTail, nested_if}
 
 -- ---- Which statements end in an `if`

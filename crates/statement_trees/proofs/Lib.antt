@@ -5,3 +5,4 @@ pub mod FrontRules
 pub mod BackRules
 pub mod Whole
 pub mod Free
+pub mod First

@@ -8,19 +8,8 @@ use Rattle.c_scopes.specs.Events.{Event, Opens, Closes, Declares, Uses}
 use Rattle.c_tree.specs.TreeEvents.{Events, scoped}
 use Rattle.c_syntax.specs.Scoping.{is_typedef_name, first_is_typedef}
 use Rattle.expression_trees.specs.Saying.{AreMet}
+use Rattle.statement_trees.specs.Innermost.{declaring, AreAlike, IsFree}
 use Rattle.expression_trees.proofs.Meaning.{met_then, met_cut}
-
--- The scopes, with these declarations in the innermost one, the latest first.
-abbrev pub declaring : List Declared → OpenScopes → OpenScopes
-declaring more scopes = record { innermost = more ++ scopes.innermost; around = scopes.around }
-
-abbrev pub AreAlike : OpenScopes → OpenScopes → Type 0
-AreAlike s t = declarations_in t ≡ declarations_in s
-
--- Some names are declared in the innermost scope, in whatever alike scopes.
-pub record IsFree (events : List Event) : Type 0 where
-  pub free : (s end : OpenScopes) → AreMet s events end →
-      (more : List Declared) × (end ≡ declaring more s) × ((t : OpenScopes) → AreAlike s t → AreMet t events (declaring more t))
 
 -- And none is.
 pub record IsShut (events : List Event) : Type 0 where

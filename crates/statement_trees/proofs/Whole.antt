@@ -19,7 +19,8 @@ use Rattle.expression_trees.specs.Trees.{of_expr, of_assign}
 use Rattle.expression_trees.proofs.Meaning.{adds_of_trees, trees_of_adds, back_of_words, words_of_back, knot_trees, knot_words}
 use Rattle.statement_trees.specs.Trees.{of_declaration, of_stmt, of_block, of_item}
 use Rattle.statement_trees.specs.Forms.{IsFrom, twice, IsFormedConstant, IsFormedItem, IsFormedEnded, BelowAreTrees, BelowAreWords}
-use Rattle.statement_trees.proofs.Scoped.{IsFree, IsShut}
+use Rattle.statement_trees.specs.Innermost.{IsFree}
+use Rattle.statement_trees.proofs.Scoped.{IsShut}
 use Rattle.statement_trees.proofs.FrontRules.{adds_item, adds_statement, adds_block}
 use Rattle.statement_trees.proofs.BackRules.{IsBraced, NoneBegins, item_back, ended_back, block_back}
 
