@@ -18,7 +18,7 @@ use Rattle.c_tree.specs.declared.tree.Mark.{Mark}
 use Rattle.c_tree.specs.declared.tree.Mark.TheVariants as mark_
 use Rattle.c_tree.specs.Folds.{OpenStmtKind}
 use Rattle.c_tree.specs.Fits.{Fits}
-use Rattle.c_tree.specs.Spell.{Symbols, joined, expr_spelling, stmt_spelling, stmt_kind_spelling, label_spelling}
+use Rattle.c_tree.specs.Spell.{Symbols, joined, expr_spelling, stmt_spelling, stmt_kind_spelling, label_spelling, block_level, block_item_spelling}
 use Rattle.c_tree.specs.Depths.{IsFormedExpr}
 use Rattle.c_tree.specs.Statements.{IsIf, IsIfKind, IsLabel, IsStmtKind, IsStmt, IsFormedStmt}
 use Rattle.c_tree.proofs.Spellings as spell
@@ -26,7 +26,7 @@ use Rattle.reading.specs.Terminals.{has}
 use Rattle.reading.specs.Readers.{begins}
 use Rattle.c_reading.specs.Kept.{KeptToken}
 use Rattle.c_reading.specs.Cursors.{terminal_in}
-use Rattle.c_reading.specs.Terminals.{terminal_where}
+use Rattle.c_reading.specs.Terminals.{key, terminal_where, word_terminal}
 use Rattle.c_syntax.specs.Scoping.{is_typedef_name, terminal_of}
 use Rattle.c_stmt.specs.StatementSets.{a_left_brace, an_if}
 use Rattle.c_stmt.specs.StatementForms.{stmt_of}
@@ -42,6 +42,47 @@ Avoids set wanted = (t : List ℕ → Bool) (kind : Kind) (bytes : List ℕ) →
 pub avoids_kind : (set : List ℕ) (kind : Kind) → ((t : List ℕ → Bool) (bytes : List ℕ) → has set (terminal_where t kind bytes) ≡ false) →
     (t : List ℕ → Bool) (other : Kind) (bytes : List ℕ) → other ≡ kind → has set (terminal_where t other bytes) ≡ false
 avoids_kind set kind h t other bytes e = subst (λ z. has set (terminal_where t z bytes) ≡ false) (sym e) (h t bytes)
+
+-- But for blocks and `if`.
+abbrev pub IsOther : OpenStmtKind → Type 0
+IsOther (s.StmtKind-F.Empty marks) = Prim.Unit {0}
+IsOther (s.StmtKind-F.Value e marks) = Prim.Unit {0}
+IsOther (s.StmtKind-F.Braced b) = ⊥
+IsOther (s.StmtKind-F.If arms other marks) = ⊥
+IsOther (s.StmtKind-F.While e x marks) = Prim.Unit {0}
+IsOther (s.StmtKind-F.DoWhile x e marks) = Prim.Unit {0}
+IsOther (s.StmtKind-F.For i c t x marks) = Prim.Unit {0}
+IsOther (s.StmtKind-F.Switch e x marks) = Prim.Unit {0}
+IsOther (s.StmtKind-F.Break marks) = Prim.Unit {0}
+IsOther (s.StmtKind-F.Continue marks) = Prim.Unit {0}
+IsOther (s.StmtKind-F.Goto x marks) = Prim.Unit {0}
+IsOther (s.StmtKind-F.Return e marks) = Prim.Unit {0}
+
+-- A block, an `if`, or another.
+other_or : (x : OpenStmtKind) → IsOther x ⊎ (((b : Block) × (x ≡ s.StmtKind-F.Braced b)) ⊎ IsIfKind x)
+other_or (s.StmtKind-F.Empty marks) = inl tt
+other_or (s.StmtKind-F.Value e marks) = inl tt
+other_or (s.StmtKind-F.Braced b) = inr (inl (b, refl))
+other_or (s.StmtKind-F.If arms other marks) = inr (inr tt)
+other_or (s.StmtKind-F.While e x marks) = inl tt
+other_or (s.StmtKind-F.DoWhile x e marks) = inl tt
+other_or (s.StmtKind-F.For i c t x marks) = inl tt
+other_or (s.StmtKind-F.Switch e x marks) = inl tt
+other_or (s.StmtKind-F.Break marks) = inl tt
+other_or (s.StmtKind-F.Continue marks) = inl tt
+other_or (s.StmtKind-F.Goto x marks) = inl tt
+other_or (s.StmtKind-F.Return e marks) = inl tt
+
+avoids_key : (set : List ℕ) (c : ℕ) → has set (key c) ≡ false → Avoids set (want.Key c)
+avoids_key set c h = avoids_kind set (k.Key c) (λ t bytes. h)
+
+brace_word : (b : Bool) → has a_left_brace (word_terminal b) ≡ false
+brace_word true = refl
+brace_word false = refl
+
+if_word : (b : Bool) → has an_if (word_terminal b) ≡ false
+if_word true = refl
+if_word false = refl
 
 module _ (kind_of : ℕ → Option Kind) (bytes_of : ℕ → List ℕ) where
   pub none_token : (set : List ℕ) (n : ℕ) (wanted : Want) (rest : Symbols) → Avoids set wanted → NoneBegins kind_of bytes_of set (record { token = n; want = wanted } ∷ rest)
@@ -65,21 +106,6 @@ module _ (kind_of : ℕ → Option Kind) (bytes_of : ℕ → List ℕ) where
       (break_ : Avoids set (want.Key KEY_BREAK)) (continue_ : Avoids set (want.Key KEY_CONTINUE)) (goto_ : Avoids set (want.Key KEY_GOTO)) (return_ : Avoids set (want.Key KEY_RETURN)) where
     abbrev None_ : StmtKind → Type 0
     None_ x = NoneBegins kind_of bytes_of set (stmt_kind_spelling x)
-
-    -- But for blocks and `if`.
-    abbrev IsOther : OpenStmtKind → Type 0
-    IsOther (s.StmtKind-F.Empty marks) = Prim.Unit {0}
-    IsOther (s.StmtKind-F.Value e marks) = Prim.Unit {0}
-    IsOther (s.StmtKind-F.Braced b) = ⊥
-    IsOther (s.StmtKind-F.If arms other marks) = ⊥
-    IsOther (s.StmtKind-F.While e x marks) = Prim.Unit {0}
-    IsOther (s.StmtKind-F.DoWhile x e marks) = Prim.Unit {0}
-    IsOther (s.StmtKind-F.For i c t x marks) = Prim.Unit {0}
-    IsOther (s.StmtKind-F.Switch e x marks) = Prim.Unit {0}
-    IsOther (s.StmtKind-F.Break marks) = Prim.Unit {0}
-    IsOther (s.StmtKind-F.Continue marks) = Prim.Unit {0}
-    IsOther (s.StmtKind-F.Goto x marks) = Prim.Unit {0}
-    IsOther (s.StmtKind-F.Return e marks) = Prim.Unit {0}
 
     pub other_none : (x : OpenStmtKind) → IsStmtKind kind_of m (IsFormedStmt kind_of m) x → IsOther x → None_ (roll-StmtKind x)
     other_none (s.StmtKind-F.Empty marks) g o = subst None_ (sym (kind.rolls-Empty marks)) (by_one (λ z. None_ (kind.Empty z)) (λ c. from_start set (want.Mark MARK_SEMICOLON) (kind.Empty (c ∷ [])) semicolon (c, [], spell.stmt_kind_empty_spelling_lem (c ∷ []))) marks g)
@@ -105,3 +131,86 @@ module _ (kind_of : ℕ → Option Kind) (bytes_of : ℕ → List ℕ) where
     stmt_none [] x g h = subst (NoneBegins kind_of bytes_of set) (sym (spell.stmt_spelling_lem (stmt_of [] x))) (h refl)
     stmt_none (y ∷ labels) x g h = subst (NoneBegins kind_of bytes_of set) (sym (spell.stmt_spelling_lem (stmt_of (y ∷ labels) x) ∙ append_assoc (label_spelling y) (joined (map label_spelling labels)) (stmt_kind_spelling x)))
         (none_then set (label_spelling y) _ (label_none y g.0))
+
+  module _ (expr_brace : (depth : ℕ) (e : Expr) → IsFormedExpr kind_of depth e → NoneBegins kind_of bytes_of a_left_brace (expr_spelling e))
+      (expr_if : (depth : ℕ) (e : Expr) → IsFormedExpr kind_of depth e → NoneBegins kind_of bytes_of an_if (expr_spelling e)) where
+    module _ (m : ℕ) where
+      brace_other : (x : OpenStmtKind) → IsStmtKind kind_of m (IsFormedStmt kind_of m) x → IsOther x → NoneBegins kind_of bytes_of a_left_brace (stmt_kind_spelling (roll-StmtKind x))
+      brace_other = other_none a_left_brace m (expr_brace m) (avoids_kind a_left_brace (k.Mark MARK_SEMICOLON) (λ t bytes. refl)) (avoids_kind a_left_brace k.Word (λ t bytes. brace_word (t bytes)))
+          (avoids_key a_left_brace KEY_CASE refl) (avoids_key a_left_brace KEY_DEFAULT refl) (avoids_key a_left_brace KEY_WHILE refl) (avoids_key a_left_brace KEY_DO refl) (avoids_key a_left_brace KEY_FOR refl)
+          (avoids_key a_left_brace KEY_SWITCH refl) (avoids_key a_left_brace KEY_BREAK refl) (avoids_key a_left_brace KEY_CONTINUE refl) (avoids_key a_left_brace KEY_GOTO refl) (avoids_key a_left_brace KEY_RETURN refl)
+
+      brace_labels : (labels : List Mark) (x : StmtKind) → Every (IsLabel kind_of m) labels → (labels ≡ [] → NoneBegins kind_of bytes_of a_left_brace (stmt_kind_spelling x)) → NoneBegins kind_of bytes_of a_left_brace (stmt_spelling (stmt_of labels x))
+      brace_labels = stmt_none a_left_brace m (expr_brace m) (avoids_kind a_left_brace (k.Mark MARK_SEMICOLON) (λ t bytes. refl)) (avoids_kind a_left_brace k.Word (λ t bytes. brace_word (t bytes)))
+          (avoids_key a_left_brace KEY_CASE refl) (avoids_key a_left_brace KEY_DEFAULT refl) (avoids_key a_left_brace KEY_WHILE refl) (avoids_key a_left_brace KEY_DO refl) (avoids_key a_left_brace KEY_FOR refl)
+          (avoids_key a_left_brace KEY_SWITCH refl) (avoids_key a_left_brace KEY_BREAK refl) (avoids_key a_left_brace KEY_CONTINUE refl) (avoids_key a_left_brace KEY_GOTO refl) (avoids_key a_left_brace KEY_RETURN refl)
+
+      if_other : (x : OpenStmtKind) → IsStmtKind kind_of m (IsFormedStmt kind_of m) x → IsOther x → NoneBegins kind_of bytes_of an_if (stmt_kind_spelling (roll-StmtKind x))
+      if_other = other_none an_if m (expr_if m) (avoids_kind an_if (k.Mark MARK_SEMICOLON) (λ t bytes. refl)) (avoids_kind an_if k.Word (λ t bytes. if_word (t bytes)))
+          (avoids_key an_if KEY_CASE refl) (avoids_key an_if KEY_DEFAULT refl) (avoids_key an_if KEY_WHILE refl) (avoids_key an_if KEY_DO refl) (avoids_key an_if KEY_FOR refl)
+          (avoids_key an_if KEY_SWITCH refl) (avoids_key an_if KEY_BREAK refl) (avoids_key an_if KEY_CONTINUE refl) (avoids_key an_if KEY_GOTO refl) (avoids_key an_if KEY_RETURN refl)
+
+      if_labels : (labels : List Mark) (x : StmtKind) → Every (IsLabel kind_of m) labels → (labels ≡ [] → NoneBegins kind_of bytes_of an_if (stmt_kind_spelling x)) → NoneBegins kind_of bytes_of an_if (stmt_spelling (stmt_of labels x))
+      if_labels = stmt_none an_if m (expr_if m) (avoids_kind an_if (k.Mark MARK_SEMICOLON) (λ t bytes. refl)) (avoids_kind an_if k.Word (λ t bytes. if_word (t bytes)))
+          (avoids_key an_if KEY_CASE refl) (avoids_key an_if KEY_DEFAULT refl) (avoids_key an_if KEY_WHILE refl) (avoids_key an_if KEY_DO refl) (avoids_key an_if KEY_FOR refl)
+          (avoids_key an_if KEY_SWITCH refl) (avoids_key an_if KEY_BREAK refl) (avoids_key an_if KEY_CONTINUE refl) (avoids_key an_if KEY_GOTO refl) (avoids_key an_if KEY_RETURN refl)
+
+      brace_if : (x : OpenStmtKind) → IsStmtKind kind_of m (IsFormedStmt kind_of m) x → IsIfKind x → NoneBegins kind_of bytes_of a_left_brace (stmt_kind_spelling (roll-StmtKind x))
+      brace_if (s.StmtKind-F.Empty marks) g i = absurd i
+      brace_if (s.StmtKind-F.Value e marks) g i = absurd i
+      brace_if (s.StmtKind-F.Braced b) g i = absurd i
+      brace_if (s.StmtKind-F.If arms other marks) g i = subst (λ z. NoneBegins kind_of bytes_of a_left_brace (stmt_kind_spelling z)) (sym (kind.rolls-If arms other marks))
+          (by_chain (λ bs o ms. NoneBegins kind_of bytes_of a_left_brace (stmt_kind_spelling (kind.If bs o ms)))
+          (λ ss last tail. from_start a_left_brace (want.Key KEY_IF) _ (avoids_key a_left_brace KEY_IF refl) (if_begins kind_of bytes_of ss last tail)) arms other marks g.some g.fixed)
+      brace_if (s.StmtKind-F.While e x marks) g i = absurd i
+      brace_if (s.StmtKind-F.DoWhile x e marks) g i = absurd i
+      brace_if (s.StmtKind-F.For a c t x marks) g i = absurd i
+      brace_if (s.StmtKind-F.Switch e x marks) g i = absurd i
+      brace_if (s.StmtKind-F.Break marks) g i = absurd i
+      brace_if (s.StmtKind-F.Continue marks) g i = absurd i
+      brace_if (s.StmtKind-F.Goto x marks) g i = absurd i
+      brace_if (s.StmtKind-F.Return e marks) g i = absurd i
+
+      rolled : (set : List ℕ) (x : StmtKind) → NoneBegins kind_of bytes_of set (stmt_kind_spelling (roll-StmtKind (out-StmtKind x))) → NoneBegins kind_of bytes_of set (stmt_kind_spelling x)
+      rolled set x h = subst (λ z. NoneBegins kind_of bytes_of set (stmt_kind_spelling z)) (roll-out-StmtKind x) h
+
+      braced_kind : (x : StmtKind) (b : Block) → out-StmtKind x ≡ s.StmtKind-F.Braced b → x ≡ kind.Braced b
+      braced_kind x b e = sym (roll-out-StmtKind x) ∙ (ap roll-StmtKind e ∙ kind.rolls-Braced b)
+
+      braced_at : (labels : List Mark) (x : StmtKind) → Every (IsLabel kind_of m) labels → IsStmtKind kind_of m (IsFormedStmt kind_of m) (out-StmtKind x) →
+          IsBraced kind_of bytes_of (stmt_of labels x) ⊎ NoneBegins kind_of bytes_of a_left_brace (stmt_spelling (stmt_of labels x))
+      braced_at (y ∷ labels) x g h = inr (brace_labels (y ∷ labels) x g (λ e. absurd (let f : y ∷ labels ≡ [] = e in cc)))
+      braced_at [] x g h = of (other_or (out-StmtKind x))
+        where
+          of : IsOther (out-StmtKind x) ⊎ (((b : Block) × (out-StmtKind x ≡ s.StmtKind-F.Braced b)) ⊎ IsIfKind (out-StmtKind x)) →
+              IsBraced kind_of bytes_of (stmt_of [] x) ⊎ NoneBegins kind_of bytes_of a_left_brace (stmt_spelling (stmt_of [] x))
+          of (inl o) = inr (brace_labels [] x tt (λ e. rolled a_left_brace x (brace_other (out-StmtKind x) h o)))
+          of (inr (inl b)) = inl (b.0, ap (stmt_of []) (braced_kind x b.0 b.1))
+          of (inr (inr i)) = inr (brace_labels [] x tt (λ e. rolled a_left_brace x (brace_if (out-StmtKind x) h i)))
+
+      braced_if : (b : Block) (x : OpenStmtKind) → x ≡ s.StmtKind-F.Braced b → NoneBegins kind_of bytes_of an_if (stmt_kind_spelling (kind.Braced b)) → NoneBegins kind_of bytes_of an_if (stmt_kind_spelling (roll-StmtKind x))
+      braced_if b x e h = subst (λ z. NoneBegins kind_of bytes_of an_if (stmt_kind_spelling z)) (sym (ap roll-StmtKind e ∙ kind.rolls-Braced b)) h
+
+      block_none : (b : Block) → length b.marks ≡ 2 → NoneBegins kind_of bytes_of an_if (stmt_kind_spelling (kind.Braced b))
+      block_none b h = subst (NoneBegins kind_of bytes_of an_if) (sym (spell.stmt_kind_braced_spelling_lem b ∙ spell.block_spelling_lem b))
+          (by_two (λ z. NoneBegins kind_of bytes_of an_if (block_level (record { items = map block_item_spelling b.items; marks = z })))
+          (λ l r. none_token an_if l (want.Mark MARK_LEFT_BRACE) _ (avoids_kind an_if (k.Mark MARK_LEFT_BRACE) (λ t bytes. refl))) b.marks h)
+
+      no_if_at : (labels : List Mark) (x : StmtKind) → Every (IsLabel kind_of m) labels → IsStmtKind kind_of m (IsFormedStmt kind_of m) (out-StmtKind x) → (IsIf (stmt_of labels x) → ⊥) →
+          NoneBegins kind_of bytes_of an_if (stmt_spelling (stmt_of labels x))
+      no_if_at labels x g h n = if_labels labels x g (λ e. rolled an_if x (of e (other_or (out-StmtKind x))))
+        where
+          of : labels ≡ [] → IsOther (out-StmtKind x) ⊎ (((b : Block) × (out-StmtKind x ≡ s.StmtKind-F.Braced b)) ⊎ IsIfKind (out-StmtKind x)) → NoneBegins kind_of bytes_of an_if (stmt_kind_spelling (roll-StmtKind (out-StmtKind x)))
+          of e (inl o) = if_other (out-StmtKind x) h o
+          of e (inr (inl b)) = braced_if b.0 (out-StmtKind x) b.1 (block_none b.0 (subst (IsStmtKind kind_of m (IsFormedStmt kind_of m)) b.1 h).marks)
+          of e (inr (inr i)) = absurd (n (e, i))
+
+    pub braced_or : (depth : ℕ) (x : Stmt) → IsFormedStmt kind_of depth x → IsBraced kind_of bytes_of x ⊎ NoneBegins kind_of bytes_of a_left_brace (stmt_spelling x)
+    unfolding IsFormedStmt
+    braced_or zero x g = absurd g
+    braced_or (suc m) x g = braced_at m x.labels x.kind (every_of (IsLabel kind_of m) x.labels g.labels) g.kind
+
+    pub begins_no_if : (depth : ℕ) (x : Stmt) → IsFormedStmt kind_of depth x → (IsIf x → ⊥) → NoneBegins kind_of bytes_of an_if (stmt_spelling x)
+    unfolding IsFormedStmt
+    begins_no_if zero x g n = absurd g
+    begins_no_if (suc m) x g n = no_if_at m x.labels x.kind (every_of (IsLabel kind_of m) x.labels g.labels) g.kind n
