@@ -6,3 +6,5 @@ pub mod BackRules
 pub mod Whole
 pub mod Free
 pub mod First
+pub mod Heads
+pub mod Law
