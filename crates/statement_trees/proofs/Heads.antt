@@ -23,7 +23,7 @@ use Rattle.c_tree.specs.Folds.{OpenPrefix, OpenBaseForm}
 use Rattle.c_tree.specs.Fits.{Fits, IsMarkAmong, prefix_operators}
 use Rattle.c_tree.specs.declared.symbol.Want.{Want}
 use Rattle.c_tree.specs.Shape.{Inner}
-use Rattle.c_tree.specs.Spell.{Symbols, joined, separated, no_end, expr_spelling, assign_spelling, cond_spelling, arm_spelling, binary_spelling, prefixed_spelling, prefix_spelling, base_form_spelling, target_spelling, operand_spelling, post_spelling}
+use Rattle.c_tree.specs.Spell.{Symbols, all_wanted, joined, separated, no_end, expr_spelling, assign_spelling, cond_spelling, arm_spelling, binary_spelling, prefixed_spelling, prefix_spelling, base_form_spelling, target_spelling, operand_spelling, post_spelling}
 use Rattle.c_tree.specs.Depths.{inner_to, IsFormedExpr}
 use Rattle.c_tree.specs.Expressions.{IsExpr, IsAssign, IsCond, IsArm, IsBinary, IsPrefixed, IsPrefix, IsBaseForm, IsTarget}
 use Rattle.c_tree.proofs.Spellings as spell
@@ -42,11 +42,11 @@ not_true false h = refl
 
 not_in : (x : ℕ) (list : List ℕ) → Every (λ (y : ℕ). y ≡ x → ⊥) list → Contains list x → ⊥
 not_in x [] g h = contains_none x h
-not_in x (y ∷ list) g h = of (contains_cases y x list h)
+not_in x (y ∷ list) g h = of (not_in x list g.1) (contains_cases y x list h)
   where
-    of : (y ≡ x) ⊎ Contains list x → ⊥
-    of (inl e) = g.0 e
-    of (inr c) = not_in x list g.1 c
+    of : (Contains list x → ⊥) → (y ≡ x) ⊎ Contains list x → ⊥
+    of go (inl e) = g.0 e
+    of go (inr c) = go c
 
 module _ (kind_of : ℕ → Option Kind) (bytes_of : ℕ → List ℕ) (set : List ℕ) (word : Avoids set want.Word) (text : Avoids set want.Text) (literal : Avoids set (want.Among slot.Literal))
     (operator : Avoids set (want.Among slot.PrefixOp)) (size : Avoids set (want.Among slot.SizeKey)) (paren : Avoids set (want.Mark MARK_LEFT_PAREN)) where
@@ -55,10 +55,10 @@ module _ (kind_of : ℕ → Option Kind) (bytes_of : ℕ → List ℕ) (set : Li
 
   module _ (inner : Inner) where
     form_none : (x : OpenBaseForm) → IsBaseForm kind_of inner x → None_ (base_form_spelling (roll-BaseForm x))
-    form_none (o.BaseForm-F.BaseForm::Name n) g = subst None_ (sym (ap base_form_spelling (form.rolls-Name n) ∙ spell.base_form_name_spelling_lem n)) (none_token kind_of bytes_of set n want.Word _ word)
+    form_none (o.BaseForm-F.BaseForm::Name n) g = subst None_ (sym (ap base_form_spelling (form.rolls-Name n) ∙ spell.base_form_name_spelling_lem n)) (none_token kind_of bytes_of set n want.Word [] word)
     form_none (o.BaseForm-F.Literal []) g = absurd (g refl)
-    form_none (o.BaseForm-F.Literal (n ∷ [])) g = subst None_ (sym (ap base_form_spelling (form.rolls-Literal (n ∷ [])) ∙ spell.base_form_literal_spelling_lem (n ∷ []))) (none_token kind_of bytes_of set n (want.Among slot.Literal) _ literal)
-    form_none (o.BaseForm-F.Literal (n ∷ p ∷ ns)) g = subst None_ (sym (ap base_form_spelling (form.rolls-Literal (n ∷ p ∷ ns)) ∙ spell.base_form_literal_spelling_lem (n ∷ p ∷ ns))) (none_token kind_of bytes_of set n want.Text _ text)
+    form_none (o.BaseForm-F.Literal (n ∷ [])) g = subst None_ (sym (ap base_form_spelling (form.rolls-Literal (n ∷ [])) ∙ spell.base_form_literal_spelling_lem (n ∷ []))) (none_token kind_of bytes_of set n (want.Among slot.Literal) [] literal)
+    form_none (o.BaseForm-F.Literal (n ∷ p ∷ ns)) g = subst None_ (sym (ap base_form_spelling (form.rolls-Literal (n ∷ p ∷ ns)) ∙ spell.base_form_literal_spelling_lem (n ∷ p ∷ ns))) (none_token kind_of bytes_of set n want.Text (all_wanted want.Text (p ∷ ns)) text)
     form_none (o.BaseForm-F.BaseForm::Group e marks) g = subst (λ z. None_ (base_form_spelling z)) (sym (form.rolls-Group e marks))
         (by_two (λ z. None_ (base_form_spelling (form.Group e z))) (λ l r. subst None_ (sym (spell.base_form_group_spelling_lem e (l ∷ r ∷ []))) (none_token kind_of bytes_of set l (want.Mark MARK_LEFT_PAREN) _ paren)) marks g.1)
     form_none (o.BaseForm-F.Compound t items []) g = absurd (of g.2.count)
@@ -70,7 +70,7 @@ module _ (kind_of : ℕ → Option Kind) (bytes_of : ℕ → List ℕ) (set : Li
     form_none (o.BaseForm-F.SizeType n t marks) g = subst None_ (sym (ap base_form_spelling (form.rolls-SizeType n t marks) ∙ spell.base_form_size_type_spelling_lem n t marks)) (none_token kind_of bytes_of set n (want.Among slot.SizeKey) _ size)
 
     prefix_none : (x : OpenPrefix) → IsPrefix kind_of inner x → None_ (prefix_spelling (roll-Prefix x))
-    prefix_none (o.Prefix-F.Op n) g = subst None_ (sym (ap prefix_spelling (prefix.rolls-Op n) ∙ spell.prefix_op_spelling_lem n)) (none_token kind_of bytes_of set n (want.Among slot.PrefixOp) _ operator)
+    prefix_none (o.Prefix-F.Op n) g = subst None_ (sym (ap prefix_spelling (prefix.rolls-Op n) ∙ spell.prefix_op_spelling_lem n)) (none_token kind_of bytes_of set n (want.Among slot.PrefixOp) [] operator)
     prefix_none (o.Prefix-F.Cast t marks) g = subst (λ z. None_ (prefix_spelling z)) (sym (prefix.rolls-Cast t marks))
         (by_two (λ z. None_ (prefix_spelling (prefix.Cast t z))) (λ l r. subst None_ (sym (spell.prefix_cast_spelling_lem t (l ∷ r ∷ []))) (none_token kind_of bytes_of set l (want.Mark MARK_LEFT_PAREN) _ paren)) marks g.1)
 
@@ -121,7 +121,7 @@ module _ (kind_of : ℕ → Option Kind) (bytes_of : ℕ → List ℕ) (set : Li
 -- ---- The two sets
 
 abbrev IsNot : Kind → Want → Type 0
-IsNot no wanted = (kind : Kind) → Fits wanted kind → kind ≡ no → ⊥
+IsNot other wanted = (kind : Kind) → Fits wanted kind → kind ≡ other → ⊥
 
 no_brace : (wanted : Want) → IsNot (k.Mark MARK_LEFT_BRACE) wanted → Avoids a_left_brace wanted
 no_brace wanted h t kind bytes f = not_true _ (λ e. h kind f (mark_is MARK_LEFT_BRACE t kind bytes e))
@@ -147,7 +147,7 @@ one_keyword : (a b : ℕ) → k.Key a ≡ k.Key b → a ≡ b
 one_keyword a b e = cc
 
 no_prefix_brace : Contains prefix_operators MARK_LEFT_BRACE → ⊥
-no_prefix_brace = not_in MARK_LEFT_BRACE prefix_operators ((λ e. omega (arith, e)), (λ e. omega (arith, e)), (λ e. omega (arith, e)), (λ e. omega (arith, e)), (λ e. omega (arith, e)), (λ e. omega (arith, e)), (λ e. omega (arith, e)), (λ e. omega (arith, e)), tt)
+no_prefix_brace = not_in MARK_LEFT_BRACE prefix_operators ((λ e. omega (arith, e)), ((λ e. omega (arith, e)), ((λ e. omega (arith, e)), ((λ e. omega (arith, e)), ((λ e. omega (arith, e)), ((λ e. omega (arith, e)), ((λ e. omega (arith, e)), ((λ e. omega (arith, e)), tt))))))))
 
 operator_no : IsNot (k.Mark MARK_LEFT_BRACE) (want.Among slot.PrefixOp)
 operator_no kind (inl f) e = no_prefix_brace (subst (Contains prefix_operators) (one_number f.0 MARK_LEFT_BRACE (sym f.2 ∙ e)) f.1)
@@ -175,7 +175,7 @@ operator_nor kind (inl f) e = absurd (let g : k.Mark f.0 ≡ k.Key KEY_IF = sym 
 operator_nor kind (inr f) e = omega (arith, one_keyword KEY_SIZEOF KEY_IF (sym f ∙ e))
 
 no_size_if : Contains (KEY_SIZEOF ∷ KEY_ALIGNOF ∷ []) KEY_IF → ⊥
-no_size_if = not_in KEY_IF (KEY_SIZEOF ∷ KEY_ALIGNOF ∷ []) ((λ e. omega (arith, e)), (λ e. omega (arith, e)), tt)
+no_size_if = not_in KEY_IF (KEY_SIZEOF ∷ KEY_ALIGNOF ∷ []) ((λ e. omega (arith, e)), ((λ e. omega (arith, e)), tt))
 
 size_nor : IsNot (k.Key KEY_IF) (want.Among slot.SizeKey)
 size_nor kind f e = no_size_if (subst (Contains (KEY_SIZEOF ∷ KEY_ALIGNOF ∷ [])) (one_keyword f.0 KEY_IF (sym f.2 ∙ e)) f.1)
