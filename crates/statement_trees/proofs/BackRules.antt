@@ -1,7 +1,7 @@
 -- Well-formed trees of statements are words of the rules. One term a form.
 
-use Rattle.std.proofs.Common.{◌≡◌, ◌≢◌, ◌⊎◌, inl, inr, ℕ, zero, suc, ◌+◌, ◌*◌, ◌≤◌, Bool, true, false, List, [], ◌∷◌, ◌++◌, Option, Some, None, map, length, refl, sym, ap, ◌∙◌, subst, append_assoc, append-nil, arith}
-use Rattle.std.specs.Prelude.{All, IsSome, IfSome}
+use Rattle.std.proofs.Common.{◌≡◌, ◌≢◌, ◌⊎◌, inl, inr, ℕ, zero, suc, ◌+◌, ◌≤◌, Bool, true, false, List, [], ◌∷◌, ◌++◌, Option, Some, None, length, refl, sym, ap, ◌∙◌, subst, append_assoc, append-nil, arith}
+use Rattle.std.specs.Prelude.{IsSome, IfSome}
 use Rattle.c_lexer.specs.declared.token.Kind.{Kind}
 use Rattle.c_lexer.specs.declared.keyword.TheConstants.{KEY_BREAK, KEY_CASE, KEY_CONTINUE}
 use Rattle.c_lexer.specs.declared.keyword.TheConstants.{KEY_DEFAULT, KEY_DO, KEY_ELSE, KEY_FOR}
@@ -25,7 +25,7 @@ use Rattle.c_tree.specs.declared.tree.Mark.{Mark}
 use Rattle.c_tree.specs.Folds.{OpenStmtKind, OpenBlockItem}
 use Rattle.c_tree.specs.Expressions.{IsConstant}
 use Rattle.c_tree.specs.Depths.{inner_to, IsFormedExpr, IsFormedDeclaration}
-use Rattle.c_tree.specs.Statements.{ends_in_if, IsIf, IsLabel, IsForInit, IsBlock, IsIfStatement, IsStmtKind, IsStmt, IsBlockItem, IsFormedStmt, IsFormedBlock}
+use Rattle.c_tree.specs.Statements.{ends_in_if, IsIf, IsLabel, IsForInit, IsIfStatement, IsStmtKind, IsStmt, IsBlockItem, IsFormedStmt, IsFormedBlock}
 use Rattle.c_tree.specs.Spell.{Symbols, stmt_spelling}
 use Rattle.c_tree.specs.declared.tree.Mark.TheVariants as mark_
 use Rattle.c_tree.specs.declared.tree.ForInit.{ForInit}
@@ -33,12 +33,11 @@ use Rattle.c_tree.specs.declared.tree.ForInit.TheVariants as init_
 use Rattle.c_tree.specs.declared.tree.BlockItem.{roll-BlockItem, out-BlockItem, roll-out-BlockItem}
 use Rattle.c_tree.specs.declared.tree.BlockItem.TheVariants as item_
 use Rattle.c_tree.specs.declared.tree.StmtKind.{out-roll-StmtKind}
-use Rattle.c_tree.specs.declared.tree.Expr.{out-Expr, roll-Expr, roll-out-Expr, out-roll-Expr}
+use Rattle.c_tree.specs.declared.tree.Expr.{out-Expr, roll-Expr, roll-out-Expr}
 use Rattle.c_tree.specs.Forms.{sole}
 use Rattle.c_tree.proofs.Folds as fold
 use Rattle.reading.specs.declared.turn.Turn.TheVariants.{Again, Done}
-use Rattle.reading.specs.Languages.{Leveled, tokens_of}
-use Rattle.reading.specs.Rules.{pure, changes, repeat}
+use Rattle.reading.specs.Rules.{changes, repeat}
 use Rattle.reading.specs.Terminals.{has}
 use Rattle.reading.specs.Readers.{begins}
 use Rattle.reading.proofs.Sets.{never}
@@ -47,12 +46,10 @@ use Rattle.c_syntax.specs.Scoping.{Part, terminal_of}
 use Rattle.c_stmt.specs.declared.forms.Kinded.{Kinded}
 use Rattle.c_stmt.specs.declared.forms.Ended.{Ended}
 use Rattle.c_stmt.specs.declared.forms.BlockItems.{BlockItems}
-use Rattle.c_stmt.specs.declared.forms.Arm.{Arm}
 use Rattle.c_stmt.specs.declared.forms.Arms.{Arms}
 use Rattle.c_stmt.specs.Choices.{without}
 use Rattle.c_stmt.specs.StatementSets.{a_left_brace, an_if}
-use Rattle.c_stmt.specs.declared.forms.MaybeExpr.{MaybeExpr}
-use Rattle.c_stmt.specs.StatementForms.{maybe_expr, for_head, for_of, with_label, with_case, with_default, closed, ended_of, stmt_of, with_item, no_items, block_of, arm_of, first_arms, with_arm, arms_to, without_else, with_else, switch_of, while_of, do_of}
+use Rattle.c_stmt.specs.StatementForms.{maybe_expr, for_head, for_of, with_label, with_case, with_default, closed, ended_of, stmt_of, with_item, block_of, arm_of, with_arm, arms_to, without_else, with_else, switch_of, while_of, do_of}
 use Rattle.c_stmt.specs.Below.{Below, Inside}
 use Rattle.c_stmt.specs.StatementRules as lang
 use Rattle.c_stmt.specs.StatementRules.{entering, in_scope}

@@ -7,8 +7,7 @@ use Rattle.c_lexer.specs.declared.token.Kind.{Kind}
 use Rattle.c_lexer.specs.declared.keyword.TheConstants.{KEY_ELSE, KEY_IF}
 use Rattle.c_lexer.specs.declared.mark.TheConstants.{MARK_LEFT_PAREN, MARK_RIGHT_PAREN}
 use Rattle.c_scopes.specs.Scopes.{OpenScopes}
-use Rattle.c_scopes.specs.Events.{Opens, Closes}
-use Rattle.c_tree.specs.declared.symbol.Symbol.{Symbol}
+use Rattle.c_scopes.specs.Events.{Opens}
 use Rattle.c_tree.specs.declared.symbol.Want.TheVariants as want
 use Rattle.c_tree.specs.declared.tree.Expr.{Expr}
 use Rattle.c_tree.specs.declared.tree.Stmt.{Stmt}
@@ -22,7 +21,6 @@ use Rattle.c_tree.proofs.Spellings as spell
 use Rattle.c_reading.specs.Kept.{KeptToken}
 use Rattle.expression_trees.specs.Saying.{Said, ◌and◌, nothing, token, FitTokens, AreMet, AreSaid}
 use Rattle.expression_trees.specs.Trees.{of_expr}
-use Rattle.expression_trees.proofs.FormsSay.{same_said, said_of}
 use Rattle.expression_trees.proofs.Lists.{Every}
 use Rattle.statement_trees.specs.Trees.{stmt_steps_of, of_stmt, of_kind, of_body}
 use Rattle.statement_trees.proofs.FormsSay.{opens, closes}

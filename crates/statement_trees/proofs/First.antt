@@ -1,11 +1,10 @@
 -- With what statements begin: a block alone with `{`, and an `if` alone with `if`.
 
-use Rattle.std.proofs.Common.{◌≡◌, ◌≢◌, ◌⊎◌, inl, inr, ℕ, zero, suc, ◌+◌, Bool, true, false, List, [], ◌∷◌, ◌++◌, Option, Some, None, map, length, refl, sym, ap, ◌∙◌, subst, append_assoc, append-nil, arith}
+use Rattle.std.proofs.Common.{◌≡◌, ◌⊎◌, inl, inr, ℕ, zero, suc, Bool, true, false, List, [], ◌∷◌, ◌++◌, Option, map, length, refl, sym, ap, ◌∙◌, subst, append_assoc}
 use Rattle.c_lexer.specs.declared.token.Kind.{Kind}
 use Rattle.c_lexer.specs.declared.token.Kind.TheVariants as k
 use Rattle.c_lexer.specs.declared.keyword.TheConstants.{KEY_BREAK, KEY_CASE, KEY_CONTINUE, KEY_DEFAULT, KEY_DO, KEY_FOR, KEY_GOTO, KEY_IF, KEY_RETURN, KEY_SWITCH, KEY_WHILE}
 use Rattle.c_lexer.specs.declared.mark.TheConstants.{MARK_LEFT_BRACE, MARK_SEMICOLON}
-use Rattle.c_scopes.specs.Scopes.{OpenScopes}
 use Rattle.c_tree.specs.declared.symbol.Want.{Want}
 use Rattle.c_tree.specs.declared.symbol.Want.TheVariants as want
 use Rattle.c_tree.specs.declared.tree.Expr.{Expr}
@@ -20,14 +19,12 @@ use Rattle.c_tree.specs.Folds.{OpenStmtKind}
 use Rattle.c_tree.specs.Fits.{Fits}
 use Rattle.c_tree.specs.Spell.{Symbols, joined, expr_spelling, stmt_spelling, stmt_kind_spelling, label_spelling, block_level, block_item_spelling}
 use Rattle.c_tree.specs.Depths.{IsFormedExpr}
-use Rattle.c_tree.specs.Statements.{IsIf, IsIfKind, IsLabel, IsStmtKind, IsStmt, IsFormedStmt}
+use Rattle.c_tree.specs.Statements.{IsIf, IsIfKind, IsLabel, IsStmtKind, IsFormedStmt}
 use Rattle.c_tree.proofs.Spellings as spell
 use Rattle.reading.specs.Terminals.{has}
-use Rattle.reading.specs.Readers.{begins}
-use Rattle.c_reading.specs.Kept.{KeptToken}
 use Rattle.c_reading.specs.Cursors.{terminal_in}
 use Rattle.c_reading.specs.Terminals.{key, terminal_where, word_terminal}
-use Rattle.c_syntax.specs.Scoping.{is_typedef_name, terminal_of}
+use Rattle.c_syntax.specs.Scoping.{is_typedef_name}
 use Rattle.c_stmt.specs.StatementSets.{a_left_brace, an_if}
 use Rattle.c_stmt.specs.StatementForms.{stmt_of}
 use Rattle.expression_trees.specs.Saying.{FitTokens}

@@ -1,18 +1,16 @@
 -- What the forms of statements say, by their fields, before the rest.
 
-use Rattle.std.proofs.Common.{◌≡◌, ℕ, List, [], ◌∷◌, ◌++◌, Option, Some, None, map, refl, sym, ap, ◌∙◌, append_assoc, append-nil}
+use Rattle.std.proofs.Common.{◌≡◌, ℕ, List, [], ◌∷◌, ◌++◌, Option, Some, None, map, refl, ap, ◌∙◌, append_assoc}
 use Rattle.std.specs.List.{flat_map}
-use Rattle.std.specs.Option.{option_map}
 use Rattle.c_lexer.specs.declared.token.Kind.{Kind}
 use Rattle.c_lexer.specs.declared.keyword.TheConstants.{KEY_BREAK, KEY_CASE, KEY_CONTINUE}
-use Rattle.c_lexer.specs.declared.keyword.TheConstants.{KEY_DEFAULT, KEY_DO, KEY_ELSE, KEY_FOR}
-use Rattle.c_lexer.specs.declared.keyword.TheConstants.{KEY_GOTO, KEY_IF, KEY_RETURN, KEY_SWITCH}
+use Rattle.c_lexer.specs.declared.keyword.TheConstants.{KEY_DEFAULT, KEY_DO, KEY_FOR}
+use Rattle.c_lexer.specs.declared.keyword.TheConstants.{KEY_GOTO, KEY_RETURN, KEY_SWITCH}
 use Rattle.c_lexer.specs.declared.keyword.TheConstants.{KEY_WHILE}
 use Rattle.c_lexer.specs.declared.mark.TheConstants.{MARK_LEFT_PAREN, MARK_RIGHT_PAREN}
 use Rattle.c_lexer.specs.declared.mark.TheConstants.{MARK_LEFT_BRACE, MARK_RIGHT_BRACE}
 use Rattle.c_lexer.specs.declared.mark.TheConstants.{MARK_COLON, MARK_SEMICOLON}
-use Rattle.c_scopes.specs.Events.{Event, Opens, Closes}
-use Rattle.c_tree.specs.declared.symbol.Want.{Want}
+use Rattle.c_scopes.specs.Events.{Opens, Closes}
 use Rattle.c_tree.specs.declared.symbol.Want.TheVariants as want
 use Rattle.c_tree.specs.declared.tree.Expr.{Expr}
 use Rattle.c_tree.specs.declared.tree.Assign.{Assign}
@@ -21,15 +19,14 @@ use Rattle.c_tree.specs.declared.tree.Block.{Block}
 use Rattle.c_tree.specs.declared.tree.BlockItem.{BlockItem}
 use Rattle.c_tree.specs.declared.tree.BlockItem.TheVariants as item_
 use Rattle.c_tree.specs.declared.tree.Stmt.{Stmt}
-use Rattle.c_tree.specs.declared.tree.StmtKind.{StmtKind}
 use Rattle.c_tree.specs.declared.tree.StmtKind.TheVariants as kind
 use Rattle.c_tree.specs.declared.tree.Mark.{Mark}
 use Rattle.c_tree.specs.declared.tree.Mark.TheVariants as mark_
 use Rattle.c_tree.specs.declared.tree.ForInit.{ForInit}
 use Rattle.c_tree.specs.declared.tree.ForInit.TheVariants as init_
 use Rattle.c_tree.specs.Forms.{sole}
-use Rattle.c_tree.specs.Folds.{stmt_fold, block_item_fold, expr_fold}
-use Rattle.c_tree.specs.Spell.{Symbols, joined, expr_spelling, declaration_spelling, stmt_spelling, block_spelling, block_item_spelling, label_spelling, for_init_spelling}
+use Rattle.c_tree.specs.Folds.{stmt_fold, block_item_fold}
+use Rattle.c_tree.specs.Spell.{Symbols, joined, expr_spelling, stmt_spelling, block_item_spelling, label_spelling}
 use Rattle.c_tree.specs.TreeEvents.{Events, expr_events, declaration_events, label_events}
 use Rattle.c_tree.proofs.Folds as fold
 use Rattle.c_tree.proofs.Spellings as spell

@@ -1,7 +1,7 @@
 -- Statements declare names in their innermost scope alone, if what they are made of does.
 
-use Rattle.std.proofs.Common.{◌≡◌, ℕ, zero, suc, List, [], ◌∷◌, ◌++◌, Option, Some, None, map, refl, sym, ap, ◌∙◌, subst, arith}
-use Rattle.std.specs.Prelude.{All, IfSome}
+use Rattle.std.proofs.Common.{ℕ, zero, suc, List, [], ◌∷◌, Option, Some, None, map, sym, ap, ◌∙◌, subst}
+use Rattle.std.specs.Prelude.{IfSome}
 use Rattle.std.specs.List.{flat_map}
 use Rattle.c_lexer.specs.declared.token.Kind.{Kind}
 use Rattle.c_tree.specs.declared.tree.Expr.{Expr}
@@ -11,15 +11,15 @@ use Rattle.c_tree.specs.declared.tree.BlockItem.{BlockItem, roll-BlockItem, out-
 use Rattle.c_tree.specs.declared.tree.BlockItem.TheOpen as s
 use Rattle.c_tree.specs.declared.tree.BlockItem.TheVariants as item_
 use Rattle.c_tree.specs.declared.tree.Stmt.{Stmt}
-use Rattle.c_tree.specs.declared.tree.StmtKind.{StmtKind, roll-StmtKind, out-StmtKind, roll-out-StmtKind}
+use Rattle.c_tree.specs.declared.tree.StmtKind.{roll-StmtKind, out-StmtKind, roll-out-StmtKind}
 use Rattle.c_tree.specs.declared.tree.StmtKind.TheVariants as kind
 use Rattle.c_tree.specs.declared.tree.Mark.{Mark}
 use Rattle.c_tree.specs.declared.tree.Mark.TheVariants as mark_
 use Rattle.c_tree.specs.declared.tree.ForInit.{ForInit}
 use Rattle.c_tree.specs.declared.tree.ForInit.TheVariants as init_
-use Rattle.c_tree.specs.Folds.{OpenStmtKind, OpenBlockItem, stmt_fold, stmt_kind_fold, block_fold, block_item_fold}
+use Rattle.c_tree.specs.Folds.{OpenStmtKind, OpenBlockItem, stmt_kind_fold, block_item_fold}
 use Rattle.c_tree.specs.Depths.{IsFormedExpr, IsFormedDeclaration}
-use Rattle.c_tree.specs.Statements.{IsLabel, IsForInit, IsBlock, IsIf, IsIfStatement, IsStmtKind, IsStmt, IsBlockItem, IsFormedStmt, IsFormedBlock}
+use Rattle.c_tree.specs.Statements.{IsLabel, IsForInit, IsIf, IsIfStatement, IsStmtKind, IsStmt, IsBlockItem, IsFormedStmt, IsFormedBlock}
 use Rattle.c_tree.specs.TreeEvents.{Events, label_events, for_init_events, some_events, scoped, expr_events, declaration_events}
 use Rattle.c_tree.proofs.Folds as fold
 use Rattle.expression_trees.specs.Trees.{of_expr}
@@ -28,7 +28,7 @@ use Rattle.statement_trees.specs.Trees.{stmt_steps_of, of_declaration, of_stmt, 
 use Rattle.statement_trees.specs.Forms.{IsFormedItem}
 use Rattle.statement_trees.specs.Innermost.{IsFree}
 use Rattle.statement_trees.proofs.Scoped.{IsShut, free_none, free_then, free_shut, shut_scoped}
-use Rattle.statement_trees.proofs.Chains.{Branch, Steps, Tail, arms_in, tail_stmt, marks_in, by_chain, IsFreeBranch, IsFreeTail, same_if, if_met}
+use Rattle.statement_trees.proofs.Chains.{Branch, Steps, Tail, arms_in, tail_stmt, by_chain, IsFreeBranch, IsFreeTail, same_if, if_met}
 
 module _ (kind_of : ℕ → Option Kind) (bytes_of : ℕ → List ℕ)
     (free_expr : (depth : ℕ) (e : Expr) → IsFormedExpr kind_of depth e → IsFree (of_expr kind_of bytes_of e).events)

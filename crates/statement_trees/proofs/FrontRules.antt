@@ -2,7 +2,7 @@
 -- a rule.
 
 use Rattle.std.proofs.Common.{◌≡◌, ◌≢◌, ◌⊎◌, inl, inr, ℕ, zero, suc, ◌+◌, ◌*◌, ◌≤◌, Bool, true, false, List, [], ◌∷◌, ◌++◌, Option, Some, None, map, length, refl, sym, ap, ◌∙◌, subst, append_assoc, append-nil, arith}
-use Rattle.std.specs.Prelude.{All, IsSome, IfSome}
+use Rattle.std.specs.Prelude.{IsSome, IfSome}
 use Rattle.std.specs.Option.{MatchOption}
 use Rattle.c_lexer.specs.declared.token.Kind.{Kind}
 use Rattle.c_lexer.specs.declared.keyword.TheConstants.{KEY_BREAK, KEY_CASE, KEY_CONTINUE}
@@ -15,10 +15,9 @@ use Rattle.c_lexer.specs.declared.mark.TheConstants.{MARK_COLON, MARK_SEMICOLON}
 use Rattle.c_scopes.specs.Scopes.{OpenScopes, entered, left}
 use Rattle.c_tree.specs.declared.symbol.Want.TheVariants as want
 use Rattle.c_tree.specs.declared.tree.Expr.{Expr}
-use Rattle.c_tree.specs.declared.tree.Assign.{Assign}
 use Rattle.c_tree.specs.declared.tree.Declaration.{Declaration}
 use Rattle.c_tree.specs.declared.tree.Block.{Block}
-use Rattle.c_tree.specs.declared.tree.BlockItem.{BlockItem, roll-BlockItem, out-BlockItem, out-roll-BlockItem}
+use Rattle.c_tree.specs.declared.tree.BlockItem.{BlockItem, out-roll-BlockItem}
 use Rattle.c_tree.specs.declared.tree.BlockItem.TheOpen as s
 use Rattle.c_tree.specs.declared.tree.BlockItem.TheVariants as item_
 use Rattle.c_tree.specs.declared.tree.Stmt.{Stmt}
@@ -28,10 +27,10 @@ use Rattle.c_tree.specs.declared.tree.Mark.{Mark}
 use Rattle.c_tree.specs.declared.tree.Mark.TheVariants as mark_
 use Rattle.c_tree.specs.declared.tree.ForInit.{ForInit}
 use Rattle.c_tree.specs.declared.tree.ForInit.TheVariants as init_
-use Rattle.c_tree.specs.Folds.{StmtSteps, OpenStmtKind, OpenBlockItem, stmt_fold, stmt_kind_fold, block_fold}
+use Rattle.c_tree.specs.Folds.{StmtSteps, OpenStmtKind, stmt_fold, stmt_kind_fold}
 use Rattle.c_tree.specs.Forms.{sole}
 use Rattle.c_tree.specs.Depths.{IsFormedExpr, IsFormedDeclaration}
-use Rattle.c_tree.specs.Statements.{ends_in_if, ends_in_if_level, IsIf, IsIfKind, IsLabel, IsForInit, IsBlock, IsBlockItem, IsIfStatement, IsStmtKind, IsStmt, IsFormedStmt, IsFormedBlock}
+use Rattle.c_tree.specs.Statements.{ends_in_if, ends_in_if_level, IsIf, IsIfKind, IsLabel, IsForInit, IsBlockItem, IsIfStatement, IsStmtKind, IsFormedStmt, IsFormedBlock}
 use Rattle.c_tree.specs.Spell.{joined, stmt_spelling, stmt_kind_spelling, label_spelling}
 use Rattle.c_tree.proofs.Folds as fold
 use Rattle.c_tree.proofs.Spellings as spell
@@ -70,7 +69,7 @@ use Rattle.statement_trees.proofs.FormsSay as law
 use Rattle.statement_trees.proofs.FormsSay.{opens, closes, maybe}
 use Rattle.statement_trees.specs.Innermost.{IsFree}
 use Rattle.statement_trees.proofs.Scoped.{IsShut, wrapped}
-use Rattle.statement_trees.proofs.Chains.{Branch, Steps, Tail, arm_in, arms_done, marks_done, tail_marks, tail_stmt, arms_in, marks_in, if_tree, arm_said, steps_said, tail_said, arms_snoc, marks_snoc, steps_snoc, by_chain, if_begins, IsFreeBranch, IsFreeTail, nested_if}
+use Rattle.statement_trees.proofs.Chains.{Branch, Steps, Tail, arm_in, arms_done, marks_done, tail_stmt, arms_in, marks_in, if_tree, arm_said, steps_said, tail_said, arms_snoc, marks_snoc, steps_snoc, by_chain, if_begins, IsFreeBranch, IsFreeTail, nested_if}
 
 -- ---- Which statements end in an `if`
 

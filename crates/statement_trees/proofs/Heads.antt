@@ -1,6 +1,6 @@
 -- No expression begins with `{` or `if`.
 
-use Rattle.std.proofs.Common.{◌≡◌, ◌≢◌, ◌⊎◌, inl, inr, ℕ, zero, suc, ◌+◌, Bool, true, false, List, [], ◌∷◌, ◌++◌, Option, map, length, refl, sym, ap, ◌∙◌, subst, append_assoc, arith}
+use Rattle.std.proofs.Common.{◌≡◌, ◌⊎◌, inl, inr, ℕ, zero, suc, ◌+◌, Bool, true, false, List, [], ◌∷◌, ◌++◌, Option, map, length, refl, sym, ap, ◌∙◌, subst, arith}
 use Rattle.std.specs.List.{Contains}
 use Rattle.c_lexer.specs.declared.token.Kind.{Kind}
 use Rattle.c_lexer.specs.declared.token.Kind.TheVariants as k
@@ -16,20 +16,17 @@ use Rattle.c_tree.specs.declared.tree.Binary.{Binary, out-Binary}
 use Rattle.c_tree.specs.declared.tree.Prefixed.{Prefixed}
 use Rattle.c_tree.specs.declared.tree.Prefix.{Prefix, roll-Prefix, out-Prefix, roll-out-Prefix}
 use Rattle.c_tree.specs.declared.tree.Prefix.TheVariants as prefix
-use Rattle.c_tree.specs.declared.tree.BaseForm.{BaseForm, roll-BaseForm, out-BaseForm, roll-out-BaseForm}
+use Rattle.c_tree.specs.declared.tree.BaseForm.{roll-BaseForm, out-BaseForm, roll-out-BaseForm}
 use Rattle.c_tree.specs.declared.tree.BaseForm.TheOpen as o
 use Rattle.c_tree.specs.declared.tree.BaseForm.TheVariants as form
 use Rattle.c_tree.specs.Folds.{OpenPrefix, OpenBaseForm}
-use Rattle.c_tree.specs.Fits.{Fits, IsMarkAmong, prefix_operators}
+use Rattle.c_tree.specs.Fits.{Fits, prefix_operators}
 use Rattle.c_tree.specs.declared.symbol.Want.{Want}
 use Rattle.c_tree.specs.Shape.{Inner}
-use Rattle.c_tree.specs.Spell.{Symbols, all_wanted, joined, separated, no_end, expr_spelling, assign_spelling, cond_spelling, arm_spelling, binary_spelling, prefixed_spelling, prefix_spelling, base_form_spelling, target_spelling, operand_spelling, post_spelling}
+use Rattle.c_tree.specs.Spell.{Symbols, all_wanted, joined, separated, no_end, expr_spelling, assign_spelling, cond_spelling, arm_spelling, binary_spelling, prefixed_spelling, prefix_spelling, base_form_spelling, target_spelling}
 use Rattle.c_tree.specs.Depths.{inner_to, IsFormedExpr}
-use Rattle.c_tree.specs.Expressions.{IsExpr, IsAssign, IsCond, IsArm, IsBinary, IsPrefixed, IsPrefix, IsBaseForm, IsTarget}
+use Rattle.c_tree.specs.Expressions.{IsAssign, IsCond, IsArm, IsBinary, IsPrefixed, IsPrefix, IsBaseForm, IsTarget}
 use Rattle.c_tree.proofs.Spellings as spell
-use Rattle.reading.specs.Terminals.{has}
-use Rattle.reading.proofs.Sets.{never}
-use Rattle.c_reading.specs.Terminals.{terminal_where, word_terminal}
 use Rattle.c_stmt.specs.StatementSets.{a_left_brace, an_if}
 use Rattle.expression_trees.proofs.Lists.{Every, every_of, by_two}
 use Rattle.expression_trees.proofs.Tokens.{mark_is, key_is, contains_cases, contains_none}

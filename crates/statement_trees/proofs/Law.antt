@@ -1,9 +1,5 @@
 -- The theorem, with what is known of the forms of expressions.
 
-use Rattle.std.proofs.Common.{ℕ, List, Option}
-use Rattle.c_lexer.specs.declared.token.Kind.{Kind}
-use Rattle.expression_trees.specs.Trees.{of_expr}
-use Rattle.statement_trees.specs.Innermost.{AreFree}
 use Rattle.statement_trees.specs.StatementsAreTrees.{StatementsAreTrees, below_by}
 use Rattle.statement_trees.proofs.Free.{free_stmt, shut_block}
 use Rattle.statement_trees.proofs.First.{braced_or, begins_no_if}

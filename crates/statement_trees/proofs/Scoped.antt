@@ -2,10 +2,10 @@
 -- same. So a scope that holds nothing but another one, and one that ends where the next ends, change
 -- nothing.
 
-use Rattle.std.proofs.Common.{◌≡◌, ℕ, Bool, List, [], ◌∷◌, ◌++◌, refl, sym, ap, ◌∙◌, subst, append_assoc, append-nil}
-use Rattle.c_scopes.specs.Scopes.{Declared, OpenScopes, entered, declared, left, declarations_in}
+use Rattle.std.proofs.Common.{◌≡◌, ℕ, Bool, List, [], ◌∷◌, ◌++◌, refl, sym, ap, ◌∙◌, subst, append_assoc}
+use Rattle.c_scopes.specs.Scopes.{Declared, OpenScopes, entered, left, declarations_in}
 use Rattle.c_scopes.specs.Events.{Event, Opens, Closes, Declares, Uses}
-use Rattle.c_tree.specs.TreeEvents.{Events, scoped}
+use Rattle.c_tree.specs.TreeEvents.{scoped}
 use Rattle.c_syntax.specs.Scoping.{is_typedef_name, first_is_typedef}
 use Rattle.expression_trees.specs.Saying.{AreMet}
 use Rattle.statement_trees.specs.Innermost.{declaring, AreAlike, IsFree}

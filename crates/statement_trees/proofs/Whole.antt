@@ -1,11 +1,11 @@
 -- The rules of statements and blocks read their trees, on each level.
 
-use Rattle.std.proofs.Common.{◌≡◌, ◌⊎◌, ℕ, zero, suc, ◌≤◌, List, Option, refl, arith}
+use Rattle.std.proofs.Common.{◌⊎◌, ℕ, suc, ◌≤◌, List, Option, arith}
 use Rattle.c_lexer.specs.declared.token.Kind.{Kind}
 use Rattle.c_tree.specs.declared.tree.Expr.{Expr}
 use Rattle.c_tree.specs.declared.tree.Block.{Block}
 use Rattle.c_tree.specs.declared.tree.Stmt.{Stmt}
-use Rattle.c_tree.specs.Depths.{IsFormedExpr, IsFormedDeclaration}
+use Rattle.c_tree.specs.Depths.{IsFormedExpr}
 use Rattle.c_tree.specs.Spell.{stmt_spelling}
 use Rattle.c_tree.specs.Statements.{IsIf, IsFormedStmt, IsFormedBlock}
 use Rattle.reading.specs.Nesting.{nested}
@@ -18,7 +18,7 @@ use Rattle.expression_trees.specs.Saying.{Said, AreTrees, AreWords}
 use Rattle.expression_trees.specs.Trees.{of_expr, of_assign}
 use Rattle.expression_trees.proofs.Meaning.{adds_of_trees, trees_of_adds, back_of_words, words_of_back, knot_trees, knot_words}
 use Rattle.statement_trees.specs.Trees.{of_declaration, of_stmt, of_block, of_item}
-use Rattle.statement_trees.specs.Forms.{IsFrom, twice, IsFormedConstant, IsFormedItem, IsFormedEnded, BelowAreTrees, BelowAreWords}
+use Rattle.statement_trees.specs.Forms.{IsFrom, twice, IsFormedItem, IsFormedEnded, BelowAreTrees, BelowAreWords}
 use Rattle.statement_trees.specs.Innermost.{IsFree}
 use Rattle.statement_trees.proofs.Scoped.{IsShut}
 use Rattle.statement_trees.proofs.FrontRules.{adds_item, adds_statement, adds_block}

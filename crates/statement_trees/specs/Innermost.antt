@@ -1,7 +1,7 @@
 -- What is met in the same way whatever scopes stand around it, if the declarations in these are the
 -- same, and declares names in the innermost scope alone.
 
-use Rattle.std.specs.Prelude.{ℕ, ◌≡◌, ◌≤◌, List, ◌++◌, Option}
+use Rattle.std.specs.Prelude.{ℕ, ◌≡◌, List, ◌++◌, Option}
 use Rattle.c_lexer.specs.declared.token.Kind.{Kind}
 use Rattle.c_scopes.specs.Scopes.{Declared, OpenScopes, declarations_in}
 use Rattle.c_scopes.specs.Events.{Event}

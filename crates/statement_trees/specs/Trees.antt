@@ -1,8 +1,7 @@
 -- What is said of the tokens of a text by the parts of statements.
 
-use Rattle.std.specs.Prelude.{ℕ, List, [], ◌∷◌, ◌++◌, Option}
+use Rattle.std.specs.Prelude.{ℕ, List, Option}
 use Rattle.c_lexer.specs.declared.token.Kind.{Kind}
-use Rattle.c_scopes.specs.Events.{Event, Opens, Closes}
 use Rattle.c_tree.specs.declared.tree.Declaration.{Declaration}
 use Rattle.c_tree.specs.declared.tree.Block.{Block}
 use Rattle.c_tree.specs.declared.tree.BlockItem.{BlockItem}
