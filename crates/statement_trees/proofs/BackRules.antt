@@ -170,7 +170,6 @@ module _ (kind_of : ℕ → Option Kind) (bytes_of : ℕ → List ℕ) where
       (declaration : (at depth : ℕ) (x : Declaration) → IsFormedDeclaration kind_of depth x → Back kind_of bytes_of (λ d. below.declaration d at) x (λ k. of_declaration kind_of bytes_of x and k))
       (item : (depth : ℕ) → suc depth ≤ n → (x : BlockItem) → IsFormedItem kind_of bytes_of depth x → Back kind_of bytes_of (λ d. (inner d).item) x (λ k. of_item kind_of bytes_of x and k))
       (statement : (depth : ℕ) → suc depth ≤ n → (e : Ended) → IsFormedEnded kind_of bytes_of depth e → Back kind_of bytes_of (λ d. (inner d).statement) e (λ k. of_stmt kind_of bytes_of e.stmt and k)) where
-
     -- ---- Blocks (6.8.2)
 
     abbrev items_at : List BlockItem → ℕ → BlockItems
@@ -333,7 +332,7 @@ module _ (kind_of : ℕ → Option Kind) (bytes_of : ℕ → List ℕ) where
         let arms = with_arm (arms_at done last.key) (arm_of last.cond (ended_from last.body) last.left last.right) in
         let same : with_else arms t.0 (ended_from t.1) ≡ kinded_of (if_tree done last (Some t)) =
         ap (λ z. record { kind = kind.If (arms_in done last) (Some t.1) z; dangles = ends_in_if t.1 })
-            (append_assoc (marks_done done ++ last.key ∷ []) (last.left ∷ last.right ∷ []) (t.0 ∷ []) ∙ append_assoc (marks_done done) (last.key ∷ []) (last.left ∷ last.right ∷ t.0 ∷ [])) ∙
+        (append_assoc (marks_done done ++ last.key ∷ []) (last.left ∷ last.right ∷ []) (t.0 ∷ []) ∙ append_assoc (marks_done done) (last.key ∷ []) (last.left ∷ last.right ∷ t.0 ∷ [])) ∙
         ap (λ z. record { kind = if_tree done last (Some t); dangles = z }) (ends_stmt t.1 ∙ sym (fold.stmt_kind_if_folds ends_steps (arms_in done last) (Some t.1) (marks_in done last (Some t)))) in
         back_same kind_of bytes_of (ap (λ z. Done z) same) (λ k. refl)
         (back_then kind_of bytes_of (arm_back m h last.cond last.body last.left last.right g.0.0 g.0.1) (behind_other m h (ends_in_if last.body) g.1 arms t.0 t.1 g.2 g.3))
@@ -550,9 +549,9 @@ module _ (kind_of : ℕ → Option Kind) (bytes_of : ℕ → List ℕ) where
         (back_token kind_of bytes_of (hears_any kind_of bytes_of b) (back_token kind_of bytes_of (hears_mark kind_of bytes_of MARK_COLON c) (back_pure kind_of bytes_of (Again (with_label labels b c))))))) marks g
     label_back m (mark_.Case e marks) g = by_two (λ z. Labels (mark_.Case e z)) (λ b c.
         subst (λ z. IsConstant kind_of (inner_to kind_of m) z → Labels (mark_.Case z (b ∷ c ∷ []))) (roll-out-Expr e)
-            (by_one_part (λ ps ms. IsConstant kind_of (inner_to kind_of m) (roll-Expr (record { parts = ps; marks = ms })) → Labels (mark_.Case (roll-Expr (record { parts = ps; marks = ms })) (b ∷ c ∷ [])))
-            (λ a. case_back m a b c) (out-Expr e).parts (out-Expr e).marks g.0.single.one g.0.single.form.commas)
-            g.0) marks g.1
+        (by_one_part (λ ps ms. IsConstant kind_of (inner_to kind_of m) (roll-Expr (record { parts = ps; marks = ms })) → Labels (mark_.Case (roll-Expr (record { parts = ps; marks = ms })) (b ∷ c ∷ [])))
+        (λ a. case_back m a b c) (out-Expr e).parts (out-Expr e).marks g.0.single.one g.0.single.form.commas)
+        g.0) marks g.1
     label_back m (mark_.Default b marks) g = by_one (λ z. Labels (mark_.Default b z)) (λ c labels. back_right kind_of bytes_of (back_left kind_of bytes_of (back_right kind_of bytes_of (back_left kind_of bytes_of
         (back_same kind_of bytes_of refl (law.default_before kind_of bytes_of b c)
         (back_token kind_of bytes_of (hears_key kind_of bytes_of KEY_DEFAULT b) (back_token kind_of bytes_of (hears_mark kind_of bytes_of MARK_COLON c) (back_pure kind_of bytes_of (Again (with_default labels b c)))))))))) marks g

@@ -145,25 +145,25 @@ module _ (kind_of : ℕ → Option Kind) (bytes_of : ℕ → List ℕ) where
       (token e (want.Key KEY_ELSE) (steps_said ss (arm_said last (tail_said tail k)))).symbols
   others_spelled [] last tail e k =
       ap (λ (z : Symbols). record { token = e; want = want.Key KEY_ELSE } ∷ (record { token = last.key; want = want.Key KEY_IF } ∷ (record { token = last.left; want = want.Mark MARK_LEFT_PAREN } ∷ z)))
-          (branch_spelled (expr_spelling last.cond) (paren last.right MARK_RIGHT_PAREN) (stmt_spelling last.body) (other_arms (option_map stmt_spelling (tail_stmt tail)) [] (tail_marks tail)) k.symbols ∙
-          ap (λ (z : Symbols). expr_spelling last.cond ++ (record { token = last.right; want = want.Mark MARK_RIGHT_PAREN } ∷ (stmt_spelling last.body ++ z))) (tail_spelled tail k))
+      (branch_spelled (expr_spelling last.cond) (paren last.right MARK_RIGHT_PAREN) (stmt_spelling last.body) (other_arms (option_map stmt_spelling (tail_stmt tail)) [] (tail_marks tail)) k.symbols ∙
+      ap (λ (z : Symbols). expr_spelling last.cond ++ (record { token = last.right; want = want.Mark MARK_RIGHT_PAREN } ∷ (stmt_spelling last.body ++ z))) (tail_spelled tail k))
   others_spelled (s ∷ ss) last tail e k =
       ap (λ (z : Symbols). record { token = e; want = want.Key KEY_ELSE } ∷ (record { token = s.0.key; want = want.Key KEY_IF } ∷ (record { token = s.0.left; want = want.Mark MARK_LEFT_PAREN } ∷ z)))
-          (branch_spelled (expr_spelling s.0.cond) (paren s.0.right MARK_RIGHT_PAREN) (stmt_spelling s.0.body)
-          (other_arms (option_map stmt_spelling (tail_stmt tail)) (spelled_arms (arms_in ss last)) (s.1 ∷ marks_in ss last tail)) k.symbols ∙
-          ap (λ (z : Symbols). expr_spelling s.0.cond ++ (record { token = s.0.right; want = want.Mark MARK_RIGHT_PAREN } ∷ (stmt_spelling s.0.body ++ z))) (others_spelled ss last tail s.1 k))
+      (branch_spelled (expr_spelling s.0.cond) (paren s.0.right MARK_RIGHT_PAREN) (stmt_spelling s.0.body)
+      (other_arms (option_map stmt_spelling (tail_stmt tail)) (spelled_arms (arms_in ss last)) (s.1 ∷ marks_in ss last tail)) k.symbols ∙
+      ap (λ (z : Symbols). expr_spelling s.0.cond ++ (record { token = s.0.right; want = want.Mark MARK_RIGHT_PAREN } ∷ (stmt_spelling s.0.body ++ z))) (others_spelled ss last tail s.1 k))
 
   arms_spelled : (ss : Steps) (last : Branch) (tail : Tail) (k : Said) →
       if_arms (option_map stmt_spelling (tail_stmt tail)) (spelled_arms (arms_in ss last)) (marks_in ss last tail) ++ k.symbols ≡ (steps_said ss (arm_said last (tail_said tail k))).symbols
   arms_spelled [] last tail k =
       ap (λ (z : Symbols). record { token = last.key; want = want.Key KEY_IF } ∷ (record { token = last.left; want = want.Mark MARK_LEFT_PAREN } ∷ z))
-          (branch_spelled (expr_spelling last.cond) (paren last.right MARK_RIGHT_PAREN) (stmt_spelling last.body) (other_arms (option_map stmt_spelling (tail_stmt tail)) [] (tail_marks tail)) k.symbols ∙
-          ap (λ (z : Symbols). expr_spelling last.cond ++ (record { token = last.right; want = want.Mark MARK_RIGHT_PAREN } ∷ (stmt_spelling last.body ++ z))) (tail_spelled tail k))
+      (branch_spelled (expr_spelling last.cond) (paren last.right MARK_RIGHT_PAREN) (stmt_spelling last.body) (other_arms (option_map stmt_spelling (tail_stmt tail)) [] (tail_marks tail)) k.symbols ∙
+      ap (λ (z : Symbols). expr_spelling last.cond ++ (record { token = last.right; want = want.Mark MARK_RIGHT_PAREN } ∷ (stmt_spelling last.body ++ z))) (tail_spelled tail k))
   arms_spelled (s ∷ ss) last tail k =
       ap (λ (z : Symbols). record { token = s.0.key; want = want.Key KEY_IF } ∷ (record { token = s.0.left; want = want.Mark MARK_LEFT_PAREN } ∷ z))
-          (branch_spelled (expr_spelling s.0.cond) (paren s.0.right MARK_RIGHT_PAREN) (stmt_spelling s.0.body)
-          (other_arms (option_map stmt_spelling (tail_stmt tail)) (spelled_arms (arms_in ss last)) (s.1 ∷ marks_in ss last tail)) k.symbols ∙
-          ap (λ (z : Symbols). expr_spelling s.0.cond ++ (record { token = s.0.right; want = want.Mark MARK_RIGHT_PAREN } ∷ (stmt_spelling s.0.body ++ z))) (others_spelled ss last tail s.1 k))
+      (branch_spelled (expr_spelling s.0.cond) (paren s.0.right MARK_RIGHT_PAREN) (stmt_spelling s.0.body)
+      (other_arms (option_map stmt_spelling (tail_stmt tail)) (spelled_arms (arms_in ss last)) (s.1 ∷ marks_in ss last tail)) k.symbols ∙
+      ap (λ (z : Symbols). expr_spelling s.0.cond ++ (record { token = s.0.right; want = want.Mark MARK_RIGHT_PAREN } ∷ (stmt_spelling s.0.body ++ z))) (others_spelled ss last tail s.1 k))
 
   if_spelled : (ss : Steps) (last : Branch) (tail : Tail) (k : Said) →
       stmt_kind_spelling (if_tree ss last tail) ++ k.symbols ≡ (steps_said ss (arm_said last (tail_said tail k))).symbols

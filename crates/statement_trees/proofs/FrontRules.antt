@@ -228,7 +228,6 @@ module _ (kind_of : ℕ → Option Kind) (bytes_of : ℕ → List ℕ) where
       (declaration : (at : ℕ) → Adds kind_of bytes_of (below.declaration d at) (λ k. k) (Made kind_of bytes_of (of_declaration kind_of bytes_of) (IsFrom d (IsFormedDeclaration kind_of))))
       (item : Adds kind_of bytes_of (inner.item) (λ k. k) (Made kind_of bytes_of (of_item kind_of bytes_of) (IsFrom (twice d) (IsFormedItem kind_of bytes_of))))
       (statement : Adds kind_of bytes_of (inner.statement) (λ k. k) (Made kind_of bytes_of (λ (e : Ended). of_stmt kind_of bytes_of e.stmt) (IsFrom (twice d) (IsFormedEnded kind_of bytes_of)))) where
-
     -- ---- Statements without labels
 
     abbrev IsKind : ℕ → StmtKind → Type 0
@@ -539,7 +538,7 @@ module _ (kind_of : ℕ → Option Kind) (bytes_of : ℕ → List ℕ) where
         (adds_token kind_of bytes_of (says_key kind_of bytes_of KEY_IF) (λ key i. adds_pure kind_of bytes_of (Again (arms_to (with_arm arms x) (e ∷ key ∷ []))) (another_arm arms x f g r a (sym c) e key)))
         (adds_to kind_of bytes_of {fine = λ t h. (o : Ended) × (t ≡ Done (with_else (with_arm arms x) e o)) × IsBodyFrom o × ((k : Said) → h k ≡ f (g (token e (want.Key KEY_ELSE) (of_body kind_of bytes_of o.stmt and k)))) × NotFirst an_if (of_body kind_of bytes_of o.stmt)}
         (λ t h y. subst (λ z. by_turn kind_of bytes_of ArmsAre IfInside z h) (sym y.1)
-            (let w = ended_with arms x f g r a (sym c) e y.0 y.2 (not_if y.0 y.2 y.4) in (w.0, w.1, w.2, w.3, w.4, w.5, w.6, w.7, λ k. y.3 k ∙ w.8 k)))
+        (let w = ended_with arms x f g r a (sym c) e y.0 y.2 (not_if y.0 y.2 y.4) in (w.0, w.1, w.2, w.3, w.4, w.5, w.6, w.7, λ k. y.3 k ∙ w.8 k)))
         (adds_not (λ (o : Ended). of_body kind_of bytes_of o.stmt) an_if (λ o. Done (with_else (with_arm arms x) e o)) body_trees))))
         (adds_pure kind_of bytes_of (Done (without_else (with_arm arms x))) (ended_without arms x f g r a))
 
@@ -552,7 +551,7 @@ module _ (kind_of : ℕ → Option Kind) (bytes_of : ℕ → List ℕ) where
     adds_if : Adds kind_of bytes_of (lang.if_ below d level inner) (λ k. k) KindIs
     unfolding lang.if_
     adds_if = adds_looser kind_of bytes_of {fine = λ x f. (ss : Steps) × (last : Branch) × (tail : Tail) × (x.kind ≡ if_tree ss last tail) × (x.dangles ≡ ends_kind x.kind) × Every IsStep ss × IsBranch last × IsTail last tail ×
-          ((k : Said) → f k ≡ opens (steps_said kind_of bytes_of ss (arm_said kind_of bytes_of last (tail_said kind_of bytes_of tail (closes k)))))}
+        ((k : Said) → f k ≡ opens (steps_said kind_of bytes_of ss (arm_said kind_of bytes_of last (tail_said kind_of bytes_of tail (closes k)))))}
         (λ x f r. (
           (λ k. of_kind kind_of bytes_of x.kind and k),
           (λ k ts scopes end m. subst (λ z. AreSaid kind_of bytes_of (of_kind kind_of bytes_of z and k) ts scopes end) (sym r.3)
@@ -652,8 +651,7 @@ module _ (kind_of : ℕ → Option Kind) (bytes_of : ℕ → List ℕ) where
     adds_for = adds_token kind_of bytes_of (says_key kind_of bytes_of KEY_FOR) (λ n h. adds_scope {fine = KindInside}
         (adds_token kind_of bytes_of (says_mark kind_of bytes_of MARK_LEFT_PAREN) (λ l j. adds_part kind_of bytes_of adds_init (λ i f im. adds_part kind_of bytes_of (adds_maybe MARK_SEMICOLON) (λ c g cm.
         adds_part kind_of bytes_of (adds_maybe MARK_RIGHT_PAREN) (λ t o tm. adds_part kind_of bytes_of adds_body (λ b p a. adds_pure kind_of bytes_of (for_of (for_head n l i c t) b) (
-          let marks : List ℕ = n ∷ l ∷ c.mark ∷ t.mark ∷ [] in
-          (
+          let marks : List ℕ = n ∷ l ∷ c.mark ∷ t.mark ∷ [] in (
             kind_right (s.StmtKind-F.For i c.expr t.expr b.stmt marks) _ (kind.rolls-For i c.expr t.expr b.stmt marks)
                 (λ depth q. (im.0 depth (deep depth q), cm.0 depth (deep depth q), tm.0 depth (deep depth q), body_formed b a.0 depth q, refl)),
             body_ends b a.0 ∙ (ends_stmt b.stmt ∙ sym (fold.stmt_kind_for_folds ends_steps i c.expr t.expr b.stmt marks)),
