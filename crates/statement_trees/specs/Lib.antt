@@ -1,0 +1,4 @@
+pub mod Trees
+pub mod Forms
+pub mod Innermost
+pub mod StatementsAreTrees
