@@ -7,7 +7,7 @@ use Rattle.c_lexer.specs.declared.token.Kind.{Kind}
 use Rattle.c_lexer.specs.declared.keyword.TheConstants.{KEY_ALIGNAS, KEY_ATOMIC, KEY_ENUM}
 use Rattle.c_lexer.specs.declared.mark.TheConstants.{MARK_LEFT_PAREN, MARK_RIGHT_PAREN}
 use Rattle.c_lexer.specs.declared.mark.TheConstants.{MARK_LEFT_BRACE, MARK_RIGHT_BRACE}
-use Rattle.c_lexer.specs.declared.mark.TheConstants.{MARK_EQUAL}
+use Rattle.c_lexer.specs.declared.mark.TheConstants.{MARK_EQUAL, MARK_COMMA}
 use Rattle.c_scopes.specs.Events.{Event, Declares}
 use Rattle.c_tree.specs.declared.symbol.Want.TheVariants as want
 use Rattle.c_tree.specs.declared.symbol.Slot.TheVariants as slot
@@ -21,13 +21,13 @@ use Rattle.c_tree.specs.declared.tree.Expr.{Expr}
 use Rattle.c_tree.specs.declared.tree.Assign.{Assign}
 use Rattle.c_tree.specs.Forms.{sole}
 use Rattle.c_tree.specs.Folds.{spec_fold, declaration_fold, enumerator_fold, expr_fold}
-use Rattle.c_tree.specs.Spell.{Symbols, joined, all_wanted, wanted_if, brace_end, spec_spelling, declaration_spelling, enumerator_spelling, enumerator_level, expr_spelling, type_name_spelling}
+use Rattle.c_tree.specs.Spell.{Symbols, joined, others, wanted_if, brace_end, spec_spelling, declaration_spelling, enumerator_spelling, enumerator_level, expr_spelling, type_name_spelling}
 use Rattle.c_tree.specs.TreeEvents.{Met, all_met, some_met}
 use Rattle.c_tree.proofs.Folds as fold
 use Rattle.c_tree.proofs.Spellings as spell
 use Rattle.expression_trees.specs.Saying.{Said, ◌and◌, token, uses}
 use Rattle.expression_trees.specs.Trees.{steps_of, of_expr, of_assign, of_type_name, of_spec}
-use Rattle.expression_trees.proofs.FormsSay.{same_said, said_of, each, pairs, values, commas, brace_ends, each_is, pairs_are, expr_before}
+use Rattle.expression_trees.proofs.FormsSay.{same_said, said_of, each, pairs, values, commas, brace_ends, each_is, expr_before}
 use Rattle.declaration_trees.specs.Trees.{of_specs, of_enumerator, of_member}
 use Rattle.declaration_trees.proofs.Standing.{meets}
 
@@ -43,6 +43,19 @@ module _ {A : Type 0} (symbols : A → Symbols) (met : A → Met) (events : Met 
   flat_is (x ∷ xs) s e =
       same_said (append_assoc (symbols x) (joined (map symbols xs)) s) (append_assoc (events (met x)) (flat_map events (map met xs)) e) ∙
       ap (λ (z : Said). record { symbols = symbols x ++ z.symbols; events = events (met x) ++ z.events }) (flat_is xs s e)
+
+module _ {A : Type 0} (symbols : A → Symbols) (met : A → Met) where
+  abbrev by_parts : A → Said
+  by_parts a = record { symbols = symbols a; events = (met a).events }
+
+  pub pairs_are : (ends : List ℕ → Symbols) (ps : List (ℕ × A)) (rs : List ℕ) (s : Symbols) (e : List Event) →
+      said_of (others ends (map symbols (values ps)) (commas ps ++ rs) ++ s) (all_met (map met (values ps)) ++ e) ≡
+      pairs by_parts ps (said_of (ends rs ++ s) e)
+  pairs_are ends [] rs s e = refl
+  pairs_are ends (p ∷ ps) rs s e =
+      same_said (ap (λ (z : Symbols). record { token = p.0; want = want.Mark MARK_COMMA } ∷ z) (append_assoc (symbols p.1) (others ends (map symbols (values ps)) (commas ps ++ rs)) s))
+      (append_assoc (met p.1).events (all_met (map met (values ps))) e) ∙
+      ap (λ (z : Said). token p.0 (want.Mark MARK_COMMA) (by_parts p.1 and z)) (pairs_are ends ps rs s e)
 
 module _ (kind_of : ℕ → Option Kind) (bytes_of : ℕ → List ℕ) where
   pub sole_before : (a : Assign) (k : Said) → of_expr kind_of bytes_of (sole a) and k ≡ of_assign kind_of bytes_of a and k

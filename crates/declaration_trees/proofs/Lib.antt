@@ -1,2 +1,4 @@
 pub mod Standing
 pub mod FormsSay
+pub mod Words
+pub mod SpecifierFront

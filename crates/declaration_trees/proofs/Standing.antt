@@ -173,6 +173,12 @@ module _ {kind_of : ℕ → Option Kind} {bytes_of : ℕ → List ℕ} where
       ((word : NamedToken) (n : ℕ) → word ≡ word_at bytes_of n → n ≡ at → IsOf kind_of bytes_of set n → Adds kind_of bytes_of (h word) (suc n) (λ k. before (put n k)) good) → Adds kind_of bytes_of (one_word set level >>= h) at before good
   adds_word s q = adds_view (word_at bytes_of) s (λ t e. ap (λ (b : List ℕ). record { token = t.number; bytes = b }) (sym e)) q
 
+  -- The word is that of its token.
+  pub adds_named : {B : Type 0} {before : Open} (h : NamedToken → Part B) {good : B → ℕ → Open → Type 0} {set : List ℕ} {put : ℕ → Open} {level at : ℕ} → Says kind_of bytes_of set put →
+      ((n : ℕ) → n ≡ at → IsOf kind_of bytes_of set n → Adds kind_of bytes_of (h (word_at bytes_of n)) (suc n) (λ k. before (put n k)) good) → Adds kind_of bytes_of (one_word set level >>= h) at before good
+  adds_named {B} {before} h {good} {set} {put} {level} {at} s q = adds_word s
+      (λ word n e p i. subst (λ (w : NamedToken). Adds kind_of bytes_of (h w) (suc n) (λ k. before (put n k)) good) (sym e) (q n p i))
+
   -- A token of a set without `(` is none.
   pub no_paren : {set : List ℕ} {n : ℕ} → has set (mark MARK_LEFT_PAREN) ≡ false → IsOf kind_of bytes_of set n → IsNoParen kind_of n
   no_paren {set = set} {n = n} apart i = λ e.
