@@ -2,3 +2,4 @@ pub mod Standing
 pub mod FormsSay
 pub mod Words
 pub mod SpecifierFront
+pub mod SpecifierLists

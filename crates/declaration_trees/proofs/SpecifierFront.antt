@@ -29,7 +29,7 @@ use Rattle.c_tree.specs.Shape.{Inner as Contents, HasMarks, HasBraces}
 use Rattle.c_tree.specs.Expressions.{IsConstant}
 use Rattle.c_tree.specs.Declarations.{IsTypeSpecifier, MayStandIn, IsQualifier, IsSpec, IsSpecs, IsEnumerator, IsRecordBody, IsEnumerationBody}
 use Rattle.c_tree.specs.Declarations.{Place as Standing}
-use Rattle.c_tree.specs.Declarations.Place as place
+use Rattle.c_tree.specs.Declarations as tree
 use Rattle.c_tree.specs.TreeEvents.{Met, is_typedef_key}
 use Rattle.c_tree.proofs.Folds as fold
 use Rattle.reading.specs.declared.turn.Turn.{Turn}
@@ -65,11 +65,11 @@ use Rattle.declaration_trees.proofs.Standing.{Adds, Made, by_turn, meets, names,
 
 -- The place, in the words of the trees.
 abbrev pub standing : Place → Standing
-standing Ordinary = place.Ordinary
-standing Definition = place.Definition
-standing Parameter = place.Parameter
-standing Member = place.Member
-standing Nameless = place.Nameless
+standing Ordinary = tree.Ordinary
+standing Definition = tree.Definition
+standing Parameter = tree.Parameter
+standing Member = tree.Member
+standing Nameless = tree.Nameless
 
 -- A typedef name.
 abbrev pub IsName : OpenSpec → Type 0
@@ -85,10 +85,10 @@ IsName (o.Spec-F.Record key tag body marks) = ⊥
 IsName (o.Spec-F.Enumeration key tag body marks) = ⊥
 
 -- What holds of the open form holds of the word.
-word_from : (P : OpenSpec → Type 0) (x : OpenSpec) (w : Spec) → roll-Spec x ≡ w → P x → P (out-Spec w)
+pub word_from : (P : OpenSpec → Type 0) (x : OpenSpec) (w : Spec) → roll-Spec x ≡ w → P x → P (out-Spec w)
 word_from P x w e p = subst (λ (v : Spec). P (out-Spec v)) e (subst P (sym (out-roll-Spec x)) p)
 
-word_to : (P : OpenSpec → Type 0) (x : OpenSpec) (w : Spec) → roll-Spec x ≡ w → P (out-Spec w) → P x
+pub word_to : (P : OpenSpec → Type 0) (x : OpenSpec) (w : Spec) → roll-Spec x ≡ w → P (out-Spec w) → P x
 word_to P x w e p = subst P (out-roll-Spec x) (subst (λ (v : Spec). P (out-Spec v)) (sym e) p)
 
 -- No typedef name stands behind a type specifier.
@@ -96,22 +96,22 @@ abbrev pub Ordered : List Spec → Type 0
 Ordered [] = Prim.Unit {0}
 Ordered (w ∷ ws) = (IsTypeSpecifier (out-Spec w) → Every (λ v. IsName (out-Spec v) → ⊥) ws) × Ordered ws
 
-abbrev AreUntyped : List Spec → Type 0
+abbrev pub AreUntyped : List Spec → Type 0
 AreUntyped = Every (λ w. IsTypeSpecifier (out-Spec w) → ⊥)
 
-ordered_first : (ws : List Spec) (w : Spec) → AreUntyped ws → Ordered (ws ++ w ∷ [])
+pub ordered_first : (ws : List Spec) (w : Spec) → AreUntyped ws → Ordered (ws ++ w ∷ [])
 ordered_first [] w h = (λ t. tt, tt)
 ordered_first (v ∷ ws) w h = (λ t. absurd (h.0 t), ordered_first ws w h.1)
 
-ordered_more : (ws : List Spec) (w : Spec) → Ordered ws → (IsName (out-Spec w) → ⊥) → Ordered (ws ++ w ∷ [])
+pub ordered_more : (ws : List Spec) (w : Spec) → Ordered ws → (IsName (out-Spec w) → ⊥) → Ordered (ws ++ w ∷ [])
 ordered_more [] w h n = (λ t. tt, tt)
 ordered_more (v ∷ ws) w h n = ((λ t. every_snoc (λ v. IsName (out-Spec v) → ⊥) ws w (h.0 t) n), ordered_more ws w h.1 n)
 
-no_name_in : (before after : List Spec) (n : ℕ) → Every (λ v. IsName (out-Spec v) → ⊥) (before ++ spec.Named n ∷ after) → ⊥
+pub no_name_in : (before after : List Spec) (n : ℕ) → Every (λ v. IsName (out-Spec v) → ⊥) (before ++ spec.Named n ∷ after) → ⊥
 no_name_in [] after n h = h.0 (word_from IsName (o.Spec-F.Named n) _ (spec.rolls-Named n) tt)
 no_name_in (v ∷ before) after n h = no_name_in before after n h.1
 
-ordered_named : (before after : List Spec) (n : ℕ) → Ordered (before ++ spec.Named n ∷ after) → AreUntyped before
+pub ordered_named : (before after : List Spec) (n : ℕ) → Ordered (before ++ spec.Named n ∷ after) → AreUntyped before
 ordered_named [] after n h = tt
 ordered_named (v ∷ before) after n h = ((λ t. no_name_in before after n (h.0 t)), ordered_named before after n h.1)
 
@@ -122,10 +122,10 @@ module _ (kind_of : ℕ → Option Kind) (bytes_of : ℕ → List ℕ) (inner : 
   abbrev pub May : Place → Spec → Type 0
   May at w = MayStandIn kind_of (standing at) (out-Spec w)
 
-  abbrev typedef_in : Spec → Bool
+  abbrev pub typedef_in : Spec → Bool
   typedef_in w = (spec_fold (steps_of kind_of bytes_of) w).typedef
 
-  abbrev is_typedef : Met → Bool
+  abbrev pub is_typedef : Met → Bool
   is_typedef m = m.typedef
 
   pub is_constant : (a : Assign) → inner.IsAssign a → (out-Assign a).targets ≡ [] → IsConstant kind_of inner (sole a)
@@ -157,7 +157,7 @@ module _ (kind_of : ℕ → Option Kind) (bytes_of : ℕ → List ℕ) (inner : 
     pub typedef : s.typedef ≡ list_any is_typedef (map (spec_fold (steps_of kind_of bytes_of)) s.words)
     pub writes : (k : Said) → f k ≡ each (of_spec kind_of bytes_of) s.words k
 
-  settled : {at : Place} {s : Specified} {stop : ℕ} {f : Open} → Words at s stop f → (set : List ℕ) → has set (mark MARK_LEFT_PAREN) ≡ false → (n : ℕ) → n ≡ stop → IsOf kind_of bytes_of set n → Every IsWord s.words
+  pub settled : {at : Place} {s : Specified} {stop : ℕ} {f : Open} → Words at s stop f → (set : List ℕ) → has set (mark MARK_LEFT_PAREN) ≡ false → (n : ℕ) → n ≡ stop → IsOf kind_of bytes_of set n → Every IsWord s.words
   settled x set apart n e i = x.each_ (λ h. subst (IsNoParen kind_of) e (no_paren apart i))
 
   -- One more word.
@@ -168,7 +168,7 @@ module _ (kind_of : ℕ → Option Kind) (bytes_of : ℕ → List ℕ) (inner : 
     pub plain : typedef_in w ≡ false
     pub says : (k : Said) → of_spec kind_of bytes_of w and k ≡ g k
 
-  abbrev word : (at : Place) (IsKind : OpenSpec → Type 0) (x : OpenSpec) (w : Spec) (g : Open) → roll-Spec x ≡ w → IsSpec kind_of inner x → MayStandIn kind_of (standing at) x → IsKind x →
+  abbrev pub word : (at : Place) (IsKind : OpenSpec → Type 0) (x : OpenSpec) (w : Spec) (g : Open) → roll-Spec x ≡ w → IsSpec kind_of inner x → MayStandIn kind_of (standing at) x → IsKind x →
       typedef_in w ≡ false → ((k : Said) → of_spec kind_of bytes_of w and k ≡ g k) → Word at IsKind w g
   word at IsKind x w g e a b c d h = record {
     right = word_from (IsSpec kind_of inner) x w e a;
@@ -185,19 +185,19 @@ module _ (kind_of : ℕ → Option Kind) (bytes_of : ℕ → List ℕ) (inner : 
     pub is : s.words ≡ old.words ++ last ∷ []
     pub kind : IsKind (out-Spec last)
 
-  or_none : (a b : Bool) → b ≡ false → a ≡ (a || b)
+  pub or_none : (a b : Bool) → b ≡ false → a ≡ (a || b)
   or_none true b e = refl
   or_none false b e = sym e
 
-  or_some : (a b : Bool) → b ≡ true → true ≡ (a || b)
+  pub or_some : (a b : Bool) → b ≡ true → true ≡ (a || b)
   or_some true b e = refl
   or_some false b e = sym e
 
-  says_more : (s : Specified) (w : Spec) (f g : Open) → ((k : Said) → f k ≡ each (of_spec kind_of bytes_of) s.words k) → ((k : Said) → of_spec kind_of bytes_of w and k ≡ g k) →
+  pub says_more : (s : Specified) (w : Spec) (f g : Open) → ((k : Said) → f k ≡ each (of_spec kind_of bytes_of) s.words k) → ((k : Said) → of_spec kind_of bytes_of w and k ≡ g k) →
       (k : Said) → f (g k) ≡ each (of_spec kind_of bytes_of) (s.words ++ w ∷ []) k
   says_more s w f g x h k = x (g k) ∙ (ap (each (of_spec kind_of bytes_of) s.words) (sym (h k)) ∙ sym (law.each_snoc (of_spec kind_of bytes_of) s.words w k))
 
-  extended : {at : Place} {IsKind : OpenSpec → Type 0} (s : Specified) (m stop : ℕ) (f : Open) → Words at s m f → Every IsWord s.words → (w : Spec) (g : Open) → Word at IsKind w g →
+  pub extended : {at : Place} {IsKind : OpenSpec → Type 0} (s : Specified) (m stop : ℕ) (f : Open) → Words at s m f → Every IsWord s.words → (w : Spec) (g : Open) → Word at IsKind w g →
       Extends at IsKind s (with_spec s w) stop (λ k. f (g k))
   extended {at = at} s m stop f x h w g y = record {
     words = record {
@@ -219,44 +219,44 @@ module _ (kind_of : ℕ → Option Kind) (bytes_of : ℕ → List ℕ) (inner : 
   abbrev pub IsTypeWord : OpenSpec → Type 0
   IsTypeWord x = IsTypeSpecifier x × (IsName x → ⊥)
 
-  may_qualifier : (at : Place) (n : ℕ) → MayStandIn kind_of (standing at) (o.Spec-F.Qualifier n)
+  pub may_qualifier : (at : Place) (n : ℕ) → MayStandIn kind_of (standing at) (o.Spec-F.Qualifier n)
   may_qualifier Ordinary n = tt
   may_qualifier Definition n = tt
   may_qualifier Parameter n = tt
   may_qualifier Member n = tt
   may_qualifier Nameless n = tt
 
-  may_basic : (at : Place) (n : ℕ) → MayStandIn kind_of (standing at) (o.Spec-F.Basic n)
+  pub may_basic : (at : Place) (n : ℕ) → MayStandIn kind_of (standing at) (o.Spec-F.Basic n)
   may_basic Ordinary n = tt
   may_basic Definition n = tt
   may_basic Parameter n = tt
   may_basic Member n = tt
   may_basic Nameless n = tt
 
-  may_named : (at : Place) (n : ℕ) → MayStandIn kind_of (standing at) (o.Spec-F.Named n)
+  pub may_named : (at : Place) (n : ℕ) → MayStandIn kind_of (standing at) (o.Spec-F.Named n)
   may_named Ordinary n = tt
   may_named Definition n = tt
   may_named Parameter n = tt
   may_named Member n = tt
   may_named Nameless n = tt
 
-  may_atomic : (at : Place) (t : TypeName) (ms : List ℕ) → MayStandIn kind_of (standing at) (o.Spec-F.Atomic t ms)
+  pub may_atomic : (at : Place) (t : TypeName) (ms : List ℕ) → MayStandIn kind_of (standing at) (o.Spec-F.Atomic t ms)
   may_atomic Ordinary t ms = tt
   may_atomic Definition t ms = tt
   may_atomic Parameter t ms = tt
   may_atomic Member t ms = tt
   may_atomic Nameless t ms = tt
 
-  typedef_basic : (n : ℕ) → typedef_in (spec.Basic n) ≡ false
+  pub typedef_basic : (n : ℕ) → typedef_in (spec.Basic n) ≡ false
   typedef_basic n = ap is_typedef (fold.spec_basic_folds (steps_of kind_of bytes_of) n)
 
   -- ---- Specifiers that are no type specifiers (6.7.1, 6.7.3 to 6.7.5)
 
-  is_qualifier : (n m : ℕ) → (m == KEY_ATOMIC) ≡ false → kind_of n ≡ Some (k.Key m) → IsQualifier kind_of n
+  pub is_qualifier : (n m : ℕ) → (m == KEY_ATOMIC) ≡ false → kind_of n ≡ Some (k.Key m) → IsQualifier kind_of n
   is_qualifier n m h e = λ f. absurd (no_key kind_of bytes_of m n KEY_ATOMIC h e f)
 
   module _ (d level : ℕ) (rules : Inside) (fi : InsideAdds rules) (at : Place) where
-    adds_qualifier : (s : Specified) (stop : ℕ) (f : Open) → Words at s stop f → Adds kind_of bytes_of (lang.qualifier_word d level rules s) stop f (Extends at IsModifier s)
+    pub adds_qualifier : (s : Specified) (stop : ℕ) (f : Open) → Words at s stop f → Adds kind_of bytes_of (lang.qualifier_word d level rules s) stop f (Extends at IsModifier s)
     unfolding lang.qualifier_word
     adds_qualifier s stop f x = adds_token (says_plain kind_of bytes_of) (λ n e i.
         let key = other_key kind_of bytes_of (KEY_CONST ∷ KEY_RESTRICT ∷ KEY_VOLATILE ∷ []) n KEY_ATOMIC refl i in
@@ -264,7 +264,7 @@ module _ (kind_of : ℕ → Option Kind) (bytes_of : ℕ → List ℕ) (inner : 
         (word at IsModifier (o.Spec-F.Qualifier n) _ _ (spec.rolls-Qualifier n) (is_qualifier n key.0 key.1 key.2) (may_qualifier at n) (λ t. t)
         (ap is_typedef (fold.spec_qualifier_folds (steps_of kind_of bytes_of) n)) (say.qualifier_before kind_of bytes_of n))))
 
-    adds_function : ((n : ℕ) → MayStandIn kind_of (standing at) (o.Spec-F.Function n)) → (s : Specified) (stop : ℕ) (f : Open) → Words at s stop f →
+    pub adds_function : ((n : ℕ) → MayStandIn kind_of (standing at) (o.Spec-F.Function n)) → (s : Specified) (stop : ℕ) (f : Open) → Words at s stop f →
         Adds kind_of bytes_of (lang.function_word d level rules s) stop f (Extends at IsModifier s)
     unfolding lang.function_word
     adds_function may s stop f x = adds_token (says_function kind_of bytes_of) (λ n e i.
@@ -272,10 +272,10 @@ module _ (kind_of : ℕ → Option Kind) (bytes_of : ℕ → List ℕ) (inner : 
         (word at IsModifier (o.Spec-F.Function n) _ _ (spec.rolls-Function n) tt (may n) (λ t. t)
         (ap is_typedef (fold.spec_function_folds (steps_of kind_of bytes_of) n)) (say.function_before kind_of bytes_of n))))
 
-    storage_plain : (n m : ℕ) → (m == KEY_TYPEDEF) ≡ false → kind_of n ≡ Some (k.Key m) → typedef_in (spec.Storage n) ≡ false
+    pub storage_plain : (n m : ℕ) → (m == KEY_TYPEDEF) ≡ false → kind_of n ≡ Some (k.Key m) → typedef_in (spec.Storage n) ≡ false
     storage_plain n m h e = ap is_typedef (fold.spec_storage_folds (steps_of kind_of bytes_of) n) ∙ (ap is_typedef_key e ∙ h)
 
-    adds_storage : ((n m : ℕ) → (m == KEY_TYPEDEF) ≡ false → kind_of n ≡ Some (k.Key m) → MayStandIn kind_of (standing at) (o.Spec-F.Storage n)) → (s : Specified) (stop : ℕ) (f : Open) → Words at s stop f →
+    pub adds_storage : ((n m : ℕ) → (m == KEY_TYPEDEF) ≡ false → kind_of n ≡ Some (k.Key m) → MayStandIn kind_of (standing at) (o.Spec-F.Storage n)) → (s : Specified) (stop : ℕ) (f : Open) → Words at s stop f →
         Adds kind_of bytes_of (lang.storage_word d level rules s) stop f (Extends at IsModifier s)
     unfolding lang.storage_word
     adds_storage may s stop f x = adds_token (says_storage kind_of bytes_of) (λ n e i.
@@ -284,7 +284,7 @@ module _ (kind_of : ℕ → Option Kind) (bytes_of : ℕ → List ℕ) (inner : 
         (word at IsModifier (o.Spec-F.Storage n) _ _ (spec.rolls-Storage n) tt (may n key.0 key.1 key.2) (λ t. t)
         (storage_plain n key.0 key.1 key.2) (say.storage_before kind_of bytes_of n))))
 
-    adds_register : ((n : ℕ) → kind_of n ≡ Some (k.Key KEY_REGISTER) → MayStandIn kind_of (standing at) (o.Spec-F.Storage n)) → (s : Specified) (stop : ℕ) (f : Open) → Words at s stop f →
+    pub adds_register : ((n : ℕ) → kind_of n ≡ Some (k.Key KEY_REGISTER) → MayStandIn kind_of (standing at) (o.Spec-F.Storage n)) → (s : Specified) (stop : ℕ) (f : Open) → Words at s stop f →
         Adds kind_of bytes_of (lang.register_word d level rules s) stop f (Extends at IsModifier s)
     unfolding lang.register_word
     adds_register may s stop f x = adds_token (says_register kind_of bytes_of) (λ n e i.
@@ -293,7 +293,7 @@ module _ (kind_of : ℕ → Option Kind) (bytes_of : ℕ → List ℕ) (inner : 
         (word at IsModifier (o.Spec-F.Storage n) _ _ (spec.rolls-Storage n) tt (may n key) (λ t. t)
         (storage_plain n KEY_REGISTER refl key) (say.storage_before kind_of bytes_of n))))
 
-    adds_typedef : ((n : ℕ) → MayStandIn kind_of (standing at) (o.Spec-F.Storage n)) → (s : Specified) (stop : ℕ) (f : Open) → Words at s stop f →
+    pub adds_typedef : ((n : ℕ) → MayStandIn kind_of (standing at) (o.Spec-F.Storage n)) → (s : Specified) (stop : ℕ) (f : Open) → Words at s stop f →
         Adds kind_of bytes_of (lang.typedef_word d level rules s) stop f (Extends at IsModifier s)
     unfolding lang.typedef_word
     adds_typedef may s stop f x = adds_token (says_typedef_key kind_of bytes_of) (λ n e i.
@@ -312,7 +312,7 @@ module _ (kind_of : ℕ → Option Kind) (bytes_of : ℕ → List ℕ) (inner : 
           kind = word_from IsModifier (o.Spec-F.Storage n) w (spec.rolls-Storage n) (λ t. t);
         }))
 
-    adds_aligned : ((t : TypeName) (ms : List ℕ) → MayStandIn kind_of (standing at) (o.Spec-F.AlignType t ms)) → ((v : Expr) (ms : List ℕ) → MayStandIn kind_of (standing at) (o.Spec-F.AlignExpr v ms)) →
+    pub adds_aligned : ((t : TypeName) (ms : List ℕ) → MayStandIn kind_of (standing at) (o.Spec-F.AlignType t ms)) → ((v : Expr) (ms : List ℕ) → MayStandIn kind_of (standing at) (o.Spec-F.AlignExpr v ms)) →
         (s : Specified) (stop : ℕ) (f : Open) → Words at s stop f → Adds kind_of bytes_of (lang.aligned d level rules s) stop f (Extends at IsModifier s)
     unfolding lang.aligned lang.aligned_like lang.aligned_to
     adds_aligned like to s stop f x = adds_token (says_key kind_of bytes_of KEY_ALIGNAS) (λ a e i. adds_token (says_mark kind_of bytes_of MARK_LEFT_PAREN) (λ l e' i'. adds_or
@@ -332,7 +332,7 @@ module _ (kind_of : ℕ → Option Kind) (bytes_of : ℕ → List ℕ) (inner : 
 
     -- ---- Type specifiers of one keyword (6.7.2)
 
-    adds_basic : (s : Specified) (stop : ℕ) (f : Open) → Words at s stop f → Adds kind_of bytes_of (lang.basic_word d level rules s) stop f (Extends at IsTypeWord s)
+    pub adds_basic : (s : Specified) (stop : ℕ) (f : Open) → Words at s stop f → Adds kind_of bytes_of (lang.basic_word d level rules s) stop f (Extends at IsTypeWord s)
     unfolding lang.basic_word
     adds_basic s stop f x = adds_token (says_basic kind_of bytes_of) (λ n e i.
         adds_pure (with_spec s (spec.Basic n)) (extended s stop (suc n) f x (settled x _ refl n e i) (spec.Basic n) (token n (want.Among slot.Basic))
