@@ -3,3 +3,4 @@ pub mod FormsSay
 pub mod Words
 pub mod SpecifierFront
 pub mod SpecifierLists
+pub mod Specifiers

@@ -110,13 +110,13 @@ module _ (kind_of : ℕ → Option Kind) (bytes_of : ℕ → List ℕ) (inner : 
         let same : spec.Record key tag (Some m.list) m.marks ≡ spec.Record key tag (Some m.list) ms = ap (λ (z : List ℕ). spec.Record key tag (Some m.list) z) y.marks_are in
         subst (λ (w : Spec). Word kind_of bytes_of inner at (IsTypeWord kind_of bytes_of inner) w f) (sym same)
         (word kind_of bytes_of inner at (IsTypeWord kind_of bytes_of inner) (o.Spec-F.Record key tag (Some m.list) ms) _ f (spec.rolls-Record key tag (Some m.list) ms)
-        (inr tt, record { each = all_of inner.IsMember m.list y.good; some = y.some; marks = refl }) (may_record at key tag (Some m.list) ms) (tt, λ q. q)
+        (inr refl, record { each = all_of inner.IsMember m.list y.good; some = y.some; marks = refl }) (may_record at key tag (Some m.list) ms) (tt, λ q. q)
         (ap (λ (z : Met). z.typedef) (fold.spec_record_folds (steps_of kind_of bytes_of) key tag (Some m.list) ms))
         (λ k. say.record_body_before kind_of bytes_of key tag y.left y.right m.list k ∙ sym (y.writes k)))
 
     adds_record_with : (key : ℕ) (tag : Option ℕ) (stop first : ℕ) → IsNoParen kind_of first → Adds kind_of bytes_of (lang.record_with d level rules key tag) stop (λ k. token key (want.Among slot.RecordKey) (tagged tag k)) (WordIs first)
     unfolding lang.record_with lang.record_body
-    adds_record_with key tag stop first no = adds_then {fine = BodyIs (λ k. token key (want.Among slot.RecordKey) (tagged tag k))}
+    adds_record_with key tag stop first apart = adds_then {fine = BodyIs (λ k. token key (want.Among slot.RecordKey) (tagged tag k))}
         (adds_token (says_mark kind_of bytes_of MARK_LEFT_BRACE) (λ l e i. adds_part (fi.member (suc l)) (λ b p h made.
         adds_members (λ k. token key (want.Among slot.RecordKey) (tagged tag k)) (first_member b l) p (λ k. token key (want.Among slot.RecordKey) (tagged tag (token l (want.Mark MARK_LEFT_BRACE) (h k))))
         (record {
@@ -126,7 +126,7 @@ module _ (kind_of : ℕ → Option Kind) (bytes_of : ℕ → List ℕ) (inner : 
           marks_are = refl;
           writes = λ k. ap (λ (z : Said). token key (want.Among slot.RecordKey) (tagged tag (token l (want.Mark MARK_LEFT_BRACE) z))) (sym (made.1 k));
         }))))
-        (λ m n f y. adds_pure (spec.Record key tag (Some m.list) m.marks) (record_is key tag m n f y, no))
+        (λ m n f y. adds_pure (spec.Record key tag (Some m.list) m.marks) (record_is key tag m n f y, apart))
 
     adds_record : (stop : ℕ) → Adds kind_of bytes_of (lang.record_spec d level rules) stop (λ k. k) (WordIs stop)
     unfolding lang.record_spec lang.tagged_record
@@ -134,7 +134,7 @@ module _ (kind_of : ℕ → Option Kind) (bytes_of : ℕ → List ℕ) (inner : 
         (adds_token (says_any kind_of bytes_of) (λ n e' i'. adds_or
         (adds_record_with key (Some n) (suc n) stop (subst (IsNoParen kind_of) e (no_paren refl i)))
         (adds_pure (spec.Record key (Some n) None []) (
-          word kind_of bytes_of inner at (IsTypeWord kind_of bytes_of inner) (o.Spec-F.Record key (Some n) None []) _ _ (spec.rolls-Record key (Some n) None []) (inl tt, refl) (may_record at key (Some n) None []) (tt, λ q. q)
+          word kind_of bytes_of inner at (IsTypeWord kind_of bytes_of inner) (o.Spec-F.Record key (Some n) None []) _ _ (spec.rolls-Record key (Some n) None []) (inl refl, refl) (may_record at key (Some n) None []) (tt, λ q. q)
               (ap (λ (z : Met). z.typedef) (fold.spec_record_folds (steps_of kind_of bytes_of) key (Some n) None [])) (say.record_tag_before kind_of bytes_of key n),
           subst (IsNoParen kind_of) e (no_paren refl i),
         ))))
@@ -238,9 +238,9 @@ module _ (kind_of : ℕ → Option Kind) (bytes_of : ℕ → List ℕ) (inner : 
         }))))
         m x
 
-    braces_right : (l : ℕ) (ps : List (ℕ × Enumerator)) (rs : List ℕ) → (length rs ≡ 1) ⊎ (length rs ≡ 2) → HasBraces (1 + length (values ps)) (l ∷ (commas ps ++ rs))
-    braces_right l ps rs (inl e) = record { some = omega arith; count = inl (omega (arith, length_marks ps rs, e)) }
-    braces_right l ps rs (inr e) = record { some = omega arith; count = inr (omega (arith, length_marks ps rs, e)) }
+    braces_right : (l : ℕ) (a : Enumerator) (ps : List (ℕ × Enumerator)) (rs : List ℕ) → (length rs ≡ 1) ⊎ (length rs ≡ 2) → HasBraces (length (a ∷ values ps)) (l ∷ (commas ps ++ rs))
+    braces_right l a ps rs (inl e) = record { some = omega arith; count = inl (omega (arith, length_marks ps rs, e)) }
+    braces_right l a ps rs (inr e) = record { some = omega arith; count = inr (omega (arith, length_marks ps rs, e)) }
 
     enumeration_is : (key : ℕ) (tag : Option ℕ) (m : Enumerators) (stop : ℕ) (f : Open) → EndIs (λ k. token key (want.Key KEY_ENUM) (tagged tag k)) m stop f →
         Word kind_of bytes_of inner at (IsTypeWord kind_of bytes_of inner) (spec.Enumeration key tag (Some m.list) m.marks) f
@@ -251,20 +251,20 @@ module _ (kind_of : ℕ → Option Kind) (bytes_of : ℕ → List ℕ) (inner : 
         ap (λ (z : List Enumerator). spec.Enumeration key tag (Some z) m.marks) y.list_are ∙ ap (λ (z : List ℕ). spec.Enumeration key tag (Some list) z) y.marks_are in
         subst (λ (w : Spec). Word kind_of bytes_of inner at (IsTypeWord kind_of bytes_of inner) w f) (sym same)
         (word kind_of bytes_of inner at (IsTypeWord kind_of bytes_of inner) (o.Spec-F.Enumeration key tag (Some list) ms) _ f (spec.rolls-Enumeration key tag (Some list) ms)
-        (inr tt, record { each = all_of (IsEnumerator kind_of inner) list (y.good, y.goods); marks = braces_right y.left y.others y.ends y.ending }) (may_enumeration at key tag (Some list) ms) (tt, λ q. q)
+        (inr refl, record { each = all_of (IsEnumerator kind_of inner) list (y.good, y.goods); marks = braces_right y.left y.head y.others y.ends y.ending }) (may_enumeration at key tag (Some list) ms) (tt, λ q. q)
         (ap (λ (z : Met). z.typedef) (fold.spec_enumeration_folds (steps_of kind_of bytes_of) key tag (Some list) ms))
         (λ k. say.enumeration_body_before kind_of bytes_of key tag y.left y.head y.others y.ends k ∙ sym (y.writes k)))
 
     adds_enumeration_with : (key : ℕ) (tag : Option ℕ) (stop first : ℕ) → IsNoParen kind_of first → Adds kind_of bytes_of (lang.enumeration_with d level rules key tag) stop (λ k. token key (want.Key KEY_ENUM) (tagged tag k)) (WordIs first)
     unfolding lang.enumeration_with lang.enumeration_body
-    adds_enumeration_with key tag stop first no = adds_then {fine = EndIs (λ k. token key (want.Key KEY_ENUM) (tagged tag k))}
+    adds_enumeration_with key tag stop first apart = adds_then {fine = EndIs (λ k. token key (want.Key KEY_ENUM) (tagged tag k))}
         (adds_token (says_mark kind_of bytes_of MARK_LEFT_BRACE) (λ l e i. adds_part (adds_enumerator (suc l)) (λ b p h made.
         adds_enumerators (λ k. token key (want.Key KEY_ENUM) (tagged tag k)) (first_enumerator b l) p (λ k. token key (want.Key KEY_ENUM) (tagged tag (token l (want.Mark MARK_LEFT_BRACE) (h k))))
         (record {
           left = l; head = b; others = []; list_are = refl; marks_are = refl; good = made.0; goods = tt;
           writes = λ k. ap (λ (z : Said). token key (want.Key KEY_ENUM) (tagged tag (token l (want.Mark MARK_LEFT_BRACE) z))) (sym (made.1 k));
         }))))
-        (λ m n f y. adds_pure (spec.Enumeration key tag (Some m.list) m.marks) (enumeration_is key tag m n f y, no))
+        (λ m n f y. adds_pure (spec.Enumeration key tag (Some m.list) m.marks) (enumeration_is key tag m n f y, apart))
 
     adds_enumeration : (stop : ℕ) → Adds kind_of bytes_of (lang.enumeration_spec d level rules) stop (λ k. k) (WordIs stop)
     unfolding lang.enumeration_spec lang.tagged_enumeration
@@ -272,7 +272,7 @@ module _ (kind_of : ℕ → Option Kind) (bytes_of : ℕ → List ℕ) (inner : 
         (adds_token (says_any kind_of bytes_of) (λ n e' i'. adds_or
         (adds_enumeration_with key (Some n) (suc n) stop (subst (IsNoParen kind_of) e (no_paren refl i)))
         (adds_pure (spec.Enumeration key (Some n) None []) (
-          word kind_of bytes_of inner at (IsTypeWord kind_of bytes_of inner) (o.Spec-F.Enumeration key (Some n) None []) _ _ (spec.rolls-Enumeration key (Some n) None []) (inl tt, refl) (may_enumeration at key (Some n) None []) (tt, λ q. q)
+          word kind_of bytes_of inner at (IsTypeWord kind_of bytes_of inner) (o.Spec-F.Enumeration key (Some n) None []) _ _ (spec.rolls-Enumeration key (Some n) None []) (inl refl, refl) (may_enumeration at key (Some n) None []) (tt, λ q. q)
               (ap (λ (z : Met). z.typedef) (fold.spec_enumeration_folds (steps_of kind_of bytes_of) key (Some n) None [])) (say.enumeration_tag_before kind_of bytes_of key n),
           subst (IsNoParen kind_of) e (no_paren refl i),
         ))))
