@@ -4,3 +4,4 @@ pub mod Words
 pub mod SpecifierFront
 pub mod SpecifierLists
 pub mod Specifiers
+pub mod Meaning
