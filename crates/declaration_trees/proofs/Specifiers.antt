@@ -128,7 +128,7 @@ module _ (kind_of : ℕ → Option Kind) (bytes_of : ℕ → List ℕ) (inner : 
         (word kind_of bytes_of inner at (IsTypeWord kind_of bytes_of inner) (o.Spec-F.Atomic t (a ∷ l ∷ r ∷ [])) _ _ (spec.rolls-Atomic t (a ∷ l ∷ r ∷ []))
         (made.0 (subst (IsNoParen kind_of) e' (no_paren refl i')), refl) (may_atomic kind_of bytes_of inner at t (a ∷ l ∷ r ∷ [])) (tt, λ q. q)
         (ap (λ (z : Met). z.typedef) (fold.spec_atomic_folds (steps_of kind_of bytes_of) t (a ∷ l ∷ r ∷ [])))
-        (λ k. say.atomic_before kind_of bytes_of t a l r k ∙ ap (λ (z : Said). token a (want.Key KEY_ATOMIC) (token l (want.Mark MARK_LEFT_PAREN) z)) (made.1 (token r (want.Mark MARK_RIGHT_PAREN) k)))))))
+        (λ k. say.atomic_before kind_of bytes_of t a l r k ∙ ap (λ (z : Said). token a (want.Key KEY_ATOMIC) (token l (want.Mark MARK_LEFT_PAREN) z)) (made.1 (token r (want.Mark MARK_RIGHT_PAREN) k))))))))
 
     -- As a qualifier.
     abbrev qualified : Specified → ℕ → Open
