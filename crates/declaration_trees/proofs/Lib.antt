@@ -5,3 +5,4 @@ pub mod SpecifierFront
 pub mod SpecifierLists
 pub mod Specifiers
 pub mod Meaning
+pub mod Whole

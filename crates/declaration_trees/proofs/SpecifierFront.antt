@@ -57,19 +57,12 @@ use Rattle.expression_trees.proofs.Lists.{Every, all_of, every_snoc, length_comm
 use Rattle.expression_trees.proofs.Front.{Open, IsOf}
 use Rattle.expression_trees.proofs.Tokens.{says_mark, says_key, says_any, says_typedef, says_basic}
 use Rattle.declaration_trees.specs.Numbering.{IsNoParen}
+use Rattle.declaration_trees.specs.SpecifiersAreTrees.{standing}
 use Rattle.declaration_trees.specs.Trees.{of_specs, of_enumerator, of_member}
 use Rattle.declaration_trees.proofs.FormsSay as say
 use Rattle.declaration_trees.proofs.FormsSay.{tagged}
 use Rattle.declaration_trees.proofs.Words.{SomeOf, some_last, some_before, any_of, list_any_snoc, not_nil, said_each, atomic_looser, says_storage, says_register, says_typedef_key, says_function, says_plain, says_record, seen_key, other_key, no_key}
 use Rattle.declaration_trees.proofs.Standing.{Adds, Made, by_turn, meets, names, word_at, adds_pure, adds_then, adds_or, adds_from, adds_same, adds_to, adds_part, adds_token, adds_named, adds_declaring, adds_many, adds_repeat, no_paren}
-
--- The place, in the words of the trees.
-abbrev pub standing : Place → Standing
-standing Ordinary = tree.Ordinary
-standing Definition = tree.Definition
-standing Parameter = tree.Parameter
-standing Member = tree.Member
-standing Nameless = tree.Nameless
 
 -- A typedef name.
 abbrev pub IsName : OpenSpec → Type 0

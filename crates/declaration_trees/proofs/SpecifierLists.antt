@@ -43,12 +43,13 @@ use Rattle.expression_trees.proofs.Lists.{Every, all_of, every_snoc, length_comm
 use Rattle.expression_trees.proofs.Front.{Open, IsOf}
 use Rattle.expression_trees.proofs.Tokens.{says_mark, says_key, says_any, says_typedef}
 use Rattle.declaration_trees.specs.Numbering.{IsNoParen}
+use Rattle.declaration_trees.specs.SpecifiersAreTrees.{standing}
 use Rattle.declaration_trees.specs.Trees.{of_specs, of_enumerator, of_member}
 use Rattle.declaration_trees.proofs.FormsSay as say
 use Rattle.declaration_trees.proofs.FormsSay.{tagged}
 use Rattle.declaration_trees.proofs.Words.{SomeOf, some_last, some_before, any_of, list_any_snoc, not_nil, said_each, atomic_looser, says_record}
 use Rattle.declaration_trees.proofs.Standing.{Adds, Made, by_turn, meets, names, word_at, adds_pure, adds_then, adds_or, adds_from, adds_to, adds_part, adds_token, adds_named, adds_declaring, adds_many, adds_repeat, no_paren}
-use Rattle.declaration_trees.proofs.SpecifierFront.{standing, IsName, word_from, Ordered, AreUntyped, ordered_first, ordered_more, ordered_named, IsWord, May, typedef_in, is_typedef, is_constant, InsideAdds, Words, settled, Word, word, Extends, extended, says_more, or_none, IsModifier, IsTypeWord, may_qualifier, may_named, may_atomic, adds_qualifier, adds_function, adds_storage, adds_register, adds_typedef, adds_aligned, adds_basic}
+use Rattle.declaration_trees.proofs.SpecifierFront.{IsName, word_from, Ordered, AreUntyped, ordered_first, ordered_more, ordered_named, IsWord, May, typedef_in, is_typedef, is_constant, InsideAdds, Words, settled, Word, word, Extends, extended, says_more, or_none, IsModifier, IsTypeWord, may_qualifier, may_named, may_atomic, adds_qualifier, adds_function, adds_storage, adds_register, adds_typedef, adds_aligned, adds_basic}
 
 module _ (kind_of : ℕ → Option Kind) (bytes_of : ℕ → List ℕ) (inner : Contents) where
   may_record : (at : Place) (key : ℕ) (tag : Option ℕ) (body : Option (List Declaration)) (ms : List ℕ) → MayStandIn kind_of (standing at) (o.Spec-F.Record key tag body ms)

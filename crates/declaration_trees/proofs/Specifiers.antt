@@ -34,11 +34,12 @@ use Rattle.expression_trees.proofs.Lists.{Every, all_of, every_snoc}
 use Rattle.expression_trees.proofs.Front.{Open}
 use Rattle.expression_trees.proofs.Tokens.{says_mark, says_key, says_typedef}
 use Rattle.declaration_trees.specs.Numbering.{IsNoParen}
+use Rattle.declaration_trees.specs.SpecifiersAreTrees.{standing}
 use Rattle.declaration_trees.specs.Trees.{of_specs}
 use Rattle.declaration_trees.proofs.FormsSay as say
 use Rattle.declaration_trees.proofs.Words.{SomeOf, some_last, some_before, any_of, list_any_snoc, said_each, atomic_looser, no_key}
 use Rattle.declaration_trees.proofs.Standing.{Adds, by_turn, adds_pure, adds_then, adds_or, adds_from, adds_to, adds_part, adds_token, adds_many, adds_repeat, no_paren}
-use Rattle.declaration_trees.proofs.SpecifierFront.{standing, IsName, word_from, Ordered, AreUntyped, ordered_first, ordered_more, ordered_named, IsWord, May, typedef_in, is_typedef, InsideAdds, Words, settled, word, Extends, extended, says_more, or_none, IsModifier, IsTypeWord, may_qualifier, may_named, may_atomic, adds_qualifier, adds_function, adds_storage, adds_register, adds_typedef, adds_aligned, adds_basic}
+use Rattle.declaration_trees.proofs.SpecifierFront.{IsName, word_from, Ordered, AreUntyped, ordered_first, ordered_more, ordered_named, IsWord, May, typedef_in, is_typedef, InsideAdds, Words, settled, word, Extends, extended, says_more, or_none, IsModifier, IsTypeWord, may_qualifier, may_named, may_atomic, adds_qualifier, adds_function, adds_storage, adds_register, adds_typedef, adds_aligned, adds_basic}
 use Rattle.declaration_trees.proofs.SpecifierLists.{adds_record_word, adds_enumeration_word}
 
 name_types : (x : OpenSpec) → IsName x → IsTypeSpecifier x
