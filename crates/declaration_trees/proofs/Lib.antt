@@ -6,3 +6,4 @@ pub mod SpecifierLists
 pub mod Specifiers
 pub mod Meaning
 pub mod Whole
+pub mod DeclaratorFront
