@@ -1,7 +1,7 @@
 -- What the words of the rules of qualifiers and pointers are: well-formed trees that say their
 -- tokens. One term a rule.
 
-use Rattle.std.proofs.Common.{◌≡◌, ℕ, suc, Bool, true, false, ◌+◌, List, [], ◌∷◌, ◌++◌, Option, Some, map, refl, sym, ap, ◌∙◌, subst, arith}
+use Rattle.std.proofs.Common.{◌≡◌, ℕ, suc, true, false, ◌+◌, List, [], ◌∷◌, ◌++◌, Option, Some, refl, sym, ap, ◌∙◌, subst, arith}
 use Rattle.std.specs.Prelude.{All}
 use Rattle.c_lexer.specs.declared.token.Kind.{Kind}
 use Rattle.c_lexer.specs.declared.token.Kind.TheVariants as k
@@ -29,8 +29,8 @@ use Rattle.expression_trees.proofs.Lists.{Every, all_of, every_snoc}
 use Rattle.expression_trees.proofs.Front.{Open, Says}
 use Rattle.expression_trees.proofs.Tokens.{says_mark, key_is}
 use Rattle.declaration_trees.specs.Numbering.{IsNoParen}
-use Rattle.declaration_trees.proofs.Words.{says_kind, says_plain, seen_key, other_key, no_key}
-use Rattle.declaration_trees.proofs.Standing.{Adds, adds_pure, adds_then, adds_or, adds_to, adds_token, adds_many, no_paren}
+use Rattle.declaration_trees.proofs.Words.{says_kind, says_plain, other_key, no_key}
+use Rattle.declaration_trees.proofs.Standing.{Adds, adds_pure, adds_then, adds_or, adds_token, adds_many, no_paren}
 
 -- Tokens of which the same is wanted, and then the rest.
 abbrev pub all_tokens : Want → List ℕ → Said → Said

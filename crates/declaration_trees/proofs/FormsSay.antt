@@ -1,6 +1,6 @@
 -- What the forms of declarations say, by their fields, before the rest.
 
-use Rattle.std.proofs.Common.{◌≡◌, ℕ, Bool, true, false, List, [], ◌∷◌, ◌++◌, Option, Some, None, map, refl, sym, ap, ◌∙◌, append_assoc, append-nil}
+use Rattle.std.proofs.Common.{◌≡◌, ℕ, false, List, [], ◌∷◌, ◌++◌, Option, Some, None, map, refl, ap, ◌∙◌, append_assoc}
 use Rattle.std.specs.List.{flat_map}
 use Rattle.std.specs.Option.{option_map}
 use Rattle.c_lexer.specs.declared.token.Kind.{Kind}
@@ -12,10 +12,9 @@ use Rattle.c_scopes.specs.Events.{Event, Declares}
 use Rattle.c_tree.specs.declared.symbol.Want.TheVariants as want
 use Rattle.c_tree.specs.declared.symbol.Slot.TheVariants as slot
 use Rattle.c_tree.specs.declared.tree.TypeName.{TypeName}
-use Rattle.c_tree.specs.declared.tree.Specs.{Specs}
 use Rattle.c_tree.specs.declared.tree.Spec.{Spec}
 use Rattle.c_tree.specs.declared.tree.Spec.TheVariants as spec
-use Rattle.c_tree.specs.declared.tree.Enumerator.{Enumerator, roll-Enumerator, out-Enumerator, out-roll-Enumerator}
+use Rattle.c_tree.specs.declared.tree.Enumerator.{Enumerator, roll-Enumerator, out-roll-Enumerator}
 use Rattle.c_tree.specs.declared.tree.Declaration.{Declaration}
 use Rattle.c_tree.specs.declared.tree.Expr.{Expr}
 use Rattle.c_tree.specs.declared.tree.Assign.{Assign}
@@ -25,7 +24,7 @@ use Rattle.c_tree.specs.Spell.{Symbols, joined, others, wanted_if, brace_end, sp
 use Rattle.c_tree.specs.TreeEvents.{Met, all_met, some_met}
 use Rattle.c_tree.proofs.Folds as fold
 use Rattle.c_tree.proofs.Spellings as spell
-use Rattle.expression_trees.specs.Saying.{Said, ◌and◌, token, uses}
+use Rattle.expression_trees.specs.Saying.{Said, ◌and◌, token}
 use Rattle.expression_trees.specs.Trees.{steps_of, of_expr, of_assign, of_type_name, of_spec}
 use Rattle.expression_trees.proofs.FormsSay.{same_said, said_of, each, pairs, values, commas, brace_ends, each_is, expr_before}
 use Rattle.declaration_trees.specs.Trees.{of_specs, of_enumerator, of_member}

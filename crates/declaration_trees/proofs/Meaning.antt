@@ -2,10 +2,9 @@
 
 use Rattle.std.proofs.Common.{◌≡◌, ℕ, List, [], ◌∷◌, ◌++◌, Option, refl, sym, ap, ◌∙◌, subst, append_assoc, append-nil}
 use Rattle.c_lexer.specs.declared.token.Kind.{Kind}
-use Rattle.c_scopes.specs.Scopes.{OpenScopes}
 use Rattle.c_scopes.specs.Events.{Event}
 use Rattle.c_tree.specs.Spell.{Symbols}
-use Rattle.reading.specs.Languages.{Leveled, tokens_of}
+use Rattle.reading.specs.Languages.{tokens_of}
 use Rattle.c_reading.specs.Kept.{KeptToken}
 use Rattle.c_syntax.specs.Scoping.{Part}
 use Rattle.expression_trees.specs.Saying.{Said, nothing, ◌and◌, FitTokens, AreSaid}

@@ -1,68 +1,52 @@
 -- What the words of the rules of specifiers are: well-formed trees that say their tokens. One term
 -- a rule.
 
-use Rattle.std.proofs.Common.{◌≡◌, ◌≢◌, ◌⊎◌, inl, inr, ℕ, zero, suc, ◌+◌, ◌<◌, ◌==◌, ◌||◌, Bool, true, false, List, [], ◌∷◌, ◌++◌, Option, Some, None, map, length, refl, sym, ap, ◌∙◌, subst, append_assoc, append-nil, arith}
-use Rattle.std.specs.Prelude.{All, IfSome, IsSome}
-use Rattle.std.specs.Option.{MatchOption}
+use Rattle.std.proofs.Common.{◌≡◌, ℕ, suc, ◌+◌, ◌==◌, ◌||◌, Bool, true, false, List, [], ◌∷◌, ◌++◌, Option, Some, map, length, refl, sym, ap, ◌∙◌, subst}
+use Rattle.std.specs.Prelude.{All}
 use Rattle.std.specs.List.{list_any}
 use Rattle.c_lexer.specs.declared.token.Kind.{Kind}
 use Rattle.c_lexer.specs.declared.token.Kind.TheVariants as k
-use Rattle.c_lexer.specs.declared.keyword.TheConstants.{KEY_ALIGNAS, KEY_ATOMIC, KEY_ENUM, KEY_TYPEDEF, KEY_REGISTER}
+use Rattle.c_lexer.specs.declared.keyword.TheConstants.{KEY_ALIGNAS, KEY_ATOMIC, KEY_TYPEDEF, KEY_REGISTER}
 use Rattle.c_lexer.specs.declared.keyword.TheConstants.{KEY_EXTERN, KEY_STATIC, KEY_THREAD_LOCAL, KEY_AUTO, KEY_CONST, KEY_RESTRICT, KEY_VOLATILE}
 use Rattle.c_lexer.specs.declared.mark.TheConstants.{MARK_LEFT_PAREN, MARK_RIGHT_PAREN}
-use Rattle.c_lexer.specs.declared.mark.TheConstants.{MARK_LEFT_BRACE, MARK_RIGHT_BRACE}
-use Rattle.c_lexer.specs.declared.mark.TheConstants.{MARK_EQUAL, MARK_COMMA}
-use Rattle.c_scopes.specs.Events.{Declares}
 use Rattle.c_tree.specs.declared.symbol.Want.TheVariants as want
 use Rattle.c_tree.specs.declared.symbol.Slot.TheVariants as slot
 use Rattle.c_tree.specs.declared.tree.TypeName.{TypeName}
 use Rattle.c_tree.specs.declared.tree.Spec.{Spec, roll-Spec, out-Spec, out-roll-Spec}
 use Rattle.c_tree.specs.declared.tree.Spec.TheVariants as spec
-use Rattle.c_tree.specs.declared.tree.Enumerator.{Enumerator, roll-Enumerator, out-Enumerator, out-roll-Enumerator}
-use Rattle.c_tree.specs.declared.tree.Declaration.{Declaration}
-use Rattle.c_tree.specs.declared.tree.Expr.{Expr, roll-Expr, out-Expr, out-roll-Expr}
+use Rattle.c_tree.specs.declared.tree.Expr.{Expr, out-roll-Expr}
 use Rattle.c_tree.specs.declared.tree.Assign.{Assign, out-Assign}
 use Rattle.c_tree.specs.declared.tree.BaseForm.TheOpen as o
 use Rattle.c_tree.specs.Folds.{OpenSpec, spec_fold}
 use Rattle.c_tree.specs.Forms.{sole}
-use Rattle.c_tree.specs.Shape.{Inner as Contents, HasMarks, HasBraces}
+use Rattle.c_tree.specs.Shape.{Inner as Contents}
 use Rattle.c_tree.specs.Expressions.{IsConstant}
-use Rattle.c_tree.specs.Declarations.{IsTypeSpecifier, MayStandIn, IsQualifier, IsSpec, IsSpecs, IsEnumerator, IsRecordBody, IsEnumerationBody}
-use Rattle.c_tree.specs.Declarations.{Place as Standing}
-use Rattle.c_tree.specs.Declarations as tree
+use Rattle.c_tree.specs.Declarations.{IsTypeSpecifier, MayStandIn, IsQualifier, IsSpec}
 use Rattle.c_tree.specs.TreeEvents.{Met, is_typedef_key}
 use Rattle.c_tree.proofs.Folds as fold
-use Rattle.reading.specs.declared.turn.Turn.{Turn}
-use Rattle.reading.specs.declared.turn.Turn.TheVariants.{Again, Done}
 use Rattle.reading.specs.Terminals.{has}
-use Rattle.c_reading.specs.Kept.{KeptToken}
 use Rattle.c_reading.specs.Terminals.{mark}
-use Rattle.c_syntax.specs.Scoping.{Part}
 use Rattle.c_syntax.specs.declared.forms.AssignForm.TheVariants.{Constant}
-use Rattle.c_specifiers.specs.Words.{NamedToken}
 use Rattle.c_specifiers.specs.declared.forms.Place.{Place}
 use Rattle.c_specifiers.specs.declared.forms.Place.TheVariants.{Ordinary, Definition, Parameter, Member, Nameless}
 use Rattle.c_specifiers.specs.declared.forms.Specified.{Specified}
-use Rattle.c_specifiers.specs.declared.forms.NamedEnumerator.{NamedEnumerator}
-use Rattle.c_specifiers.specs.declared.forms.Members.{Members}
-use Rattle.c_specifiers.specs.declared.forms.Enumerators.{Enumerators}
-use Rattle.c_specifiers.specs.SpecifierForms.{no_specifiers, with_spec, with_typedef, with_atomic, specs_of, first_member, with_member, members_to, named_enumerator, first_enumerator, with_enumerator, enumerators_to}
+use Rattle.c_specifiers.specs.SpecifierForms.{with_spec, with_typedef}
 use Rattle.c_specifiers.specs.Inside.{Inside}
 use Rattle.c_specifiers.specs.SpecifierRules as lang
-use Rattle.expression_trees.specs.Saying.{Said, ◌and◌, token, uses, AreSaid}
-use Rattle.expression_trees.specs.Trees.{steps_of, of_expr, of_assign, of_type_name, of_spec}
+use Rattle.expression_trees.specs.Saying.{Said, ◌and◌, token}
+use Rattle.expression_trees.specs.Trees.{steps_of, of_assign, of_type_name, of_spec}
 use Rattle.expression_trees.proofs.FormsSay as law
 use Rattle.expression_trees.proofs.FormsSay.{each, pairs, values, commas, brace_ends}
-use Rattle.expression_trees.proofs.Lists.{Every, all_of, every_snoc, length_commas, length_marks}
+use Rattle.expression_trees.proofs.Lists.{Every, all_of, every_snoc}
 use Rattle.expression_trees.proofs.Front.{Open, IsOf}
-use Rattle.expression_trees.proofs.Tokens.{says_mark, says_key, says_any, says_typedef, says_basic}
+use Rattle.expression_trees.proofs.Tokens.{says_mark, says_key, says_basic}
 use Rattle.declaration_trees.specs.Numbering.{IsNoParen}
 use Rattle.declaration_trees.specs.SpecifiersAreTrees.{standing}
-use Rattle.declaration_trees.specs.Trees.{of_specs, of_enumerator, of_member}
+use Rattle.declaration_trees.specs.Trees.{of_member}
 use Rattle.declaration_trees.proofs.FormsSay as say
 use Rattle.declaration_trees.proofs.FormsSay.{tagged}
-use Rattle.declaration_trees.proofs.Words.{SomeOf, some_last, some_before, any_of, list_any_snoc, not_nil, said_each, atomic_looser, says_storage, says_register, says_typedef_key, says_function, says_plain, says_record, seen_key, other_key, no_key}
-use Rattle.declaration_trees.proofs.Standing.{Adds, Made, by_turn, meets, names, word_at, adds_pure, adds_then, adds_or, adds_from, adds_same, adds_to, adds_part, adds_token, adds_named, adds_declaring, adds_many, adds_repeat, no_paren}
+use Rattle.declaration_trees.proofs.Words.{list_any_snoc, says_storage, says_register, says_typedef_key, says_function, says_plain, seen_key, other_key, no_key}
+use Rattle.declaration_trees.proofs.Standing.{Adds, Made, adds_pure, adds_or, adds_part, adds_token, no_paren}
 
 -- A typedef name.
 abbrev pub IsName : OpenSpec → Type 0
@@ -321,7 +305,7 @@ module _ (kind_of : ℕ → Option Kind) (bytes_of : ℕ → List ℕ) (inner : 
         (word at IsModifier (o.Spec-F.AlignExpr (sole v) (a ∷ l ∷ r ∷ [])) _ _ (spec.rolls-AlignExpr (sole v) (a ∷ l ∷ r ∷ [])) (is_constant v made.0.0 made.0.1, refl) (to (sole v) (a ∷ l ∷ r ∷ [])) (λ q. q)
         (ap is_typedef (fold.spec_align_expr_folds (steps_of kind_of bytes_of) (sole v) (a ∷ l ∷ r ∷ [])))
         (λ k. say.align_expr_before kind_of bytes_of (sole v) a l r k ∙ ap (λ (z : Said). token a (want.Key KEY_ALIGNAS) (token l (want.Mark MARK_LEFT_PAREN) z))
-        (say.sole_before kind_of bytes_of v (token r (want.Mark MARK_RIGHT_PAREN) k) ∙ made.1 (token r (want.Mark MARK_RIGHT_PAREN) k)))))))))) 
+        (say.sole_before kind_of bytes_of v (token r (want.Mark MARK_RIGHT_PAREN) k) ∙ made.1 (token r (want.Mark MARK_RIGHT_PAREN) k))))))))))
 
     -- ---- Type specifiers of one keyword (6.7.2)
 

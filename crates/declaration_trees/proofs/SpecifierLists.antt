@@ -1,28 +1,26 @@
 -- Structures, unions, enumerations and whole lists of specifiers: well-formed trees that say their
 -- tokens. One term a rule.
 
-use Rattle.std.proofs.Common.{◌≡◌, ◌≢◌, ◌⊎◌, inl, inr, ℕ, zero, suc, ◌+◌, ◌<◌, Bool, true, false, List, [], ◌∷◌, ◌++◌, Option, Some, None, map, length, refl, sym, ap, ◌∙◌, subst, append_assoc, append-nil, arith}
-use Rattle.std.specs.Prelude.{All, IfSome, IsSome}
+use Rattle.std.proofs.Common.{◌≡◌, ◌≢◌, ◌⊎◌, inl, inr, ℕ, suc, false, List, [], ◌∷◌, ◌++◌, Option, Some, None, length, refl, sym, ap, ◌∙◌, subst, append_assoc, arith}
+use Rattle.std.specs.Prelude.{IfSome}
 use Rattle.std.specs.Option.{MatchOption}
 use Rattle.c_lexer.specs.declared.token.Kind.{Kind}
-use Rattle.c_lexer.specs.declared.keyword.TheConstants.{KEY_ATOMIC, KEY_ENUM}
-use Rattle.c_lexer.specs.declared.mark.TheConstants.{MARK_LEFT_PAREN, MARK_RIGHT_PAREN}
+use Rattle.c_lexer.specs.declared.keyword.TheConstants.{KEY_ENUM}
 use Rattle.c_lexer.specs.declared.mark.TheConstants.{MARK_LEFT_BRACE, MARK_RIGHT_BRACE}
 use Rattle.c_lexer.specs.declared.mark.TheConstants.{MARK_EQUAL, MARK_COMMA}
 use Rattle.c_scopes.specs.Events.{Declares}
 use Rattle.c_tree.specs.declared.symbol.Want.TheVariants as want
 use Rattle.c_tree.specs.declared.symbol.Slot.TheVariants as slot
-use Rattle.c_tree.specs.declared.tree.Spec.{Spec, out-Spec}
+use Rattle.c_tree.specs.declared.tree.Spec.{Spec}
 use Rattle.c_tree.specs.declared.tree.Spec.TheVariants as spec
-use Rattle.c_tree.specs.declared.tree.Enumerator.{Enumerator, roll-Enumerator, out-Enumerator, out-roll-Enumerator}
+use Rattle.c_tree.specs.declared.tree.Enumerator.{Enumerator, roll-Enumerator, out-roll-Enumerator}
 use Rattle.c_tree.specs.declared.tree.Declaration.{Declaration}
 use Rattle.c_tree.specs.declared.tree.Expr.{Expr}
 use Rattle.c_tree.specs.declared.tree.BaseForm.TheOpen as o
-use Rattle.c_tree.specs.Folds.{OpenSpec, spec_fold}
 use Rattle.c_tree.specs.Forms.{sole}
 use Rattle.c_tree.specs.Shape.{Inner as Contents, HasMarks, HasBraces}
 use Rattle.c_tree.specs.Expressions.{IsConstant}
-use Rattle.c_tree.specs.Declarations.{IsTypeSpecifier, MayStandIn, IsQualifier, IsSpec, IsSpecs, IsEnumerator, IsRecordBody, IsEnumerationBody}
+use Rattle.c_tree.specs.Declarations.{MayStandIn, IsEnumerator}
 use Rattle.c_tree.specs.TreeEvents.{Met}
 use Rattle.c_tree.proofs.Folds as fold
 use Rattle.reading.specs.declared.turn.Turn.TheVariants.{Again, Done}
@@ -32,24 +30,24 @@ use Rattle.c_specifiers.specs.declared.forms.Specified.{Specified}
 use Rattle.c_specifiers.specs.declared.forms.NamedEnumerator.{NamedEnumerator}
 use Rattle.c_specifiers.specs.declared.forms.Members.{Members}
 use Rattle.c_specifiers.specs.declared.forms.Enumerators.{Enumerators}
-use Rattle.c_specifiers.specs.SpecifierForms.{no_specifiers, with_spec, with_atomic, specs_of, first_member, with_member, members_to, named_enumerator, first_enumerator, with_enumerator, enumerators_to}
+use Rattle.c_specifiers.specs.SpecifierForms.{with_spec, first_member, with_member, members_to, named_enumerator, first_enumerator, with_enumerator, enumerators_to}
 use Rattle.c_specifiers.specs.Inside.{Inside}
 use Rattle.c_specifiers.specs.SpecifierRules as lang
-use Rattle.expression_trees.specs.Saying.{Said, ◌and◌, token, uses}
-use Rattle.expression_trees.specs.Trees.{steps_of, of_expr, of_type_name, of_spec}
+use Rattle.expression_trees.specs.Saying.{Said, ◌and◌, token}
+use Rattle.expression_trees.specs.Trees.{steps_of}
 use Rattle.expression_trees.proofs.FormsSay as law
 use Rattle.expression_trees.proofs.FormsSay.{each, pairs, values, commas, brace_ends}
-use Rattle.expression_trees.proofs.Lists.{Every, all_of, every_snoc, length_commas, length_marks}
-use Rattle.expression_trees.proofs.Front.{Open, IsOf}
-use Rattle.expression_trees.proofs.Tokens.{says_mark, says_key, says_any, says_typedef}
+use Rattle.expression_trees.proofs.Lists.{Every, all_of, every_snoc, length_marks}
+use Rattle.expression_trees.proofs.Front.{Open}
+use Rattle.expression_trees.proofs.Tokens.{says_mark, says_key, says_any}
 use Rattle.declaration_trees.specs.Numbering.{IsNoParen}
 use Rattle.declaration_trees.specs.SpecifiersAreTrees.{standing}
-use Rattle.declaration_trees.specs.Trees.{of_specs, of_enumerator, of_member}
+use Rattle.declaration_trees.specs.Trees.{of_enumerator, of_member}
 use Rattle.declaration_trees.proofs.FormsSay as say
 use Rattle.declaration_trees.proofs.FormsSay.{tagged}
-use Rattle.declaration_trees.proofs.Words.{SomeOf, some_last, some_before, any_of, list_any_snoc, not_nil, said_each, atomic_looser, says_record}
-use Rattle.declaration_trees.proofs.Standing.{Adds, Made, by_turn, meets, names, word_at, adds_pure, adds_then, adds_or, adds_from, adds_to, adds_part, adds_token, adds_named, adds_declaring, adds_many, adds_repeat, no_paren}
-use Rattle.declaration_trees.proofs.SpecifierFront.{IsName, word_from, Ordered, AreUntyped, ordered_first, ordered_more, ordered_named, IsWord, May, typedef_in, is_typedef, is_constant, InsideAdds, Words, settled, Word, word, Extends, extended, says_more, or_none, IsModifier, IsTypeWord, may_qualifier, may_named, may_atomic, adds_qualifier, adds_function, adds_storage, adds_register, adds_typedef, adds_aligned, adds_basic}
+use Rattle.declaration_trees.proofs.Words.{not_nil, says_record}
+use Rattle.declaration_trees.proofs.Standing.{Adds, Made, meets, word_at, adds_pure, adds_then, adds_or, adds_part, adds_token, adds_named, adds_declaring, adds_repeat, no_paren}
+use Rattle.declaration_trees.proofs.SpecifierFront.{is_constant, InsideAdds, Words, Word, word, Extends, extended, IsTypeWord}
 
 module _ (kind_of : ℕ → Option Kind) (bytes_of : ℕ → List ℕ) (inner : Contents) where
   may_record : (at : Place) (key : ℕ) (tag : Option ℕ) (body : Option (List Declaration)) (ms : List ℕ) → MayStandIn kind_of (standing at) (o.Spec-F.Record key tag body ms)
@@ -226,16 +224,30 @@ module _ (kind_of : ℕ → Option Kind) (bytes_of : ℕ → List ℕ) (inner : 
         (adds_token (says_mark kind_of bytes_of MARK_COMMA) (λ c e i. adds_or
         (adds_token (says_mark kind_of bytes_of MARK_RIGHT_BRACE) (λ r e' i'. adds_pure (Done (enumerators_to (enumerators_to q c) r))
         (record {
-          left = y.left; head = y.head; others = y.others; ends = c ∷ r ∷ []; ending = inr refl; list_are = y.list_are;
+          left = y.left;
+          head = y.head;
+          others = y.others;
+          ends = c ∷ r ∷ [];
+          ending = inr refl;
+          list_are = y.list_are;
           marks_are = ap (λ (z : List ℕ). (z ++ c ∷ []) ++ r ∷ []) y.marks_are ∙ ap (λ (z : List ℕ). y.left ∷ z) (append_assoc (commas y.others) (c ∷ []) (r ∷ []));
-          good = y.good; goods = y.goods; writes = λ k. y.writes (token c (want.Mark MARK_COMMA) (token r (want.Mark MARK_RIGHT_BRACE) k));
+          good = y.good;
+          goods = y.goods;
+          writes = λ k. y.writes (token c (want.Mark MARK_COMMA) (token r (want.Mark MARK_RIGHT_BRACE) k));
         })))
         (adds_part (adds_enumerator (suc c)) (λ b p h made. adds_pure (Again (with_enumerator (enumerators_to q c) b)) (one_more start q n g y c b p h made)))))
         (adds_token (says_mark kind_of bytes_of MARK_RIGHT_BRACE) (λ r e i. adds_pure (Done (enumerators_to q r))
         (record {
-          left = y.left; head = y.head; others = y.others; ends = r ∷ []; ending = inl refl; list_are = y.list_are;
+          left = y.left;
+          head = y.head;
+          others = y.others;
+          ends = r ∷ [];
+          ending = inl refl;
+          list_are = y.list_are;
           marks_are = ap (λ (z : List ℕ). z ++ r ∷ []) y.marks_are;
-          good = y.good; goods = y.goods; writes = λ k. y.writes (token r (want.Mark MARK_RIGHT_BRACE) k);
+          good = y.good;
+          goods = y.goods;
+          writes = λ k. y.writes (token r (want.Mark MARK_RIGHT_BRACE) k);
         }))))
         m x
 
@@ -262,7 +274,13 @@ module _ (kind_of : ℕ → Option Kind) (bytes_of : ℕ → List ℕ) (inner : 
         (adds_token (says_mark kind_of bytes_of MARK_LEFT_BRACE) (λ l e i. adds_part (adds_enumerator (suc l)) (λ b p h made.
         adds_enumerators (λ k. token key (want.Key KEY_ENUM) (tagged tag k)) (first_enumerator b l) p (λ k. token key (want.Key KEY_ENUM) (tagged tag (token l (want.Mark MARK_LEFT_BRACE) (h k))))
         (record {
-          left = l; head = b; others = []; list_are = refl; marks_are = refl; good = made.0; goods = tt;
+          left = l;
+          head = b;
+          others = [];
+          list_are = refl;
+          marks_are = refl;
+          good = made.0;
+          goods = tt;
           writes = λ k. ap (λ (z : Said). token key (want.Key KEY_ENUM) (tagged tag (token l (want.Mark MARK_LEFT_BRACE) z))) (sym (made.1 k));
         }))))
         (λ m n f y. adds_pure (spec.Enumeration key tag (Some m.list) m.marks) (enumeration_is key tag m n f y, apart))

@@ -1,6 +1,6 @@
 -- Whole lists of specifiers (C11 6.7): up to the first type specifier, and behind it.
 
-use Rattle.std.proofs.Common.{◌≡◌, ◌⊎◌, inl, inr, ℕ, zero, suc, ◌+◌, Bool, true, false, List, [], ◌∷◌, ◌++◌, Option, Some, None, map, refl, sym, ap, ◌∙◌, subst, arith}
+use Rattle.std.proofs.Common.{◌≡◌, ℕ, suc, ◌+◌, true, List, [], ◌∷◌, Option, Some, refl, sym, ap, ◌∙◌, subst, arith}
 use Rattle.c_lexer.specs.declared.token.Kind.{Kind}
 use Rattle.c_lexer.specs.declared.token.Kind.TheVariants as k
 use Rattle.c_lexer.specs.declared.keyword.TheConstants.{KEY_ATOMIC, KEY_TYPEDEF}
@@ -15,7 +15,7 @@ use Rattle.c_tree.specs.declared.tree.BaseForm.TheOpen as o
 use Rattle.c_tree.specs.Folds.{OpenSpec, spec_fold}
 use Rattle.c_tree.specs.Shape.{Inner as Contents}
 use Rattle.c_tree.specs.TreeEvents.{Met}
-use Rattle.c_tree.specs.Declarations.{IsTypeSpecifier, MayStandIn, IsQualifier, IsSpec, IsSpecs}
+use Rattle.c_tree.specs.Declarations.{IsTypeSpecifier, MayStandIn, IsSpec, IsSpecs}
 use Rattle.c_tree.proofs.Folds as fold
 use Rattle.reading.specs.declared.turn.Turn.TheVariants.{Again, Done}
 use Rattle.c_scopes.specs.Scopes.{OpenScopes}
@@ -38,8 +38,8 @@ use Rattle.declaration_trees.specs.SpecifiersAreTrees.{standing}
 use Rattle.declaration_trees.specs.Trees.{of_specs}
 use Rattle.declaration_trees.proofs.FormsSay as say
 use Rattle.declaration_trees.proofs.Words.{SomeOf, some_last, some_before, any_of, list_any_snoc, said_each, atomic_looser, no_key}
-use Rattle.declaration_trees.proofs.Standing.{Adds, by_turn, adds_pure, adds_then, adds_or, adds_from, adds_to, adds_part, adds_token, adds_many, adds_repeat, no_paren}
-use Rattle.declaration_trees.proofs.SpecifierFront.{IsName, word_from, Ordered, AreUntyped, ordered_first, ordered_more, ordered_named, IsWord, May, typedef_in, is_typedef, InsideAdds, Words, settled, word, Extends, extended, says_more, or_none, IsModifier, IsTypeWord, may_qualifier, may_named, may_atomic, adds_qualifier, adds_function, adds_storage, adds_register, adds_typedef, adds_aligned, adds_basic}
+use Rattle.declaration_trees.proofs.Standing.{Adds, adds_pure, adds_then, adds_or, adds_from, adds_to, adds_part, adds_token, adds_many, adds_repeat, no_paren}
+use Rattle.declaration_trees.proofs.SpecifierFront.{IsName, word_from, Ordered, AreUntyped, ordered_first, ordered_more, ordered_named, IsWord, May, typedef_in, InsideAdds, Words, settled, word, Extends, extended, says_more, or_none, IsModifier, IsTypeWord, may_qualifier, may_named, may_atomic, adds_qualifier, adds_function, adds_storage, adds_register, adds_typedef, adds_aligned, adds_basic}
 use Rattle.declaration_trees.proofs.SpecifierLists.{adds_record_word, adds_enumeration_word}
 
 name_types : (x : OpenSpec) → IsName x → IsTypeSpecifier x

@@ -5,10 +5,10 @@ use Rattle.std.proofs.Common.{◌≡◌, ◌⊎◌, inl, inr, ℕ, zero, suc, Bo
 use Rattle.c_lexer.specs.declared.token.Kind.{Kind}
 use Rattle.c_lexer.specs.declared.token.Kind.TheVariants as k
 use Rattle.c_lexer.specs.declared.mark.TheConstants.{MARK_LEFT_PAREN}
-use Rattle.c_scopes.specs.Scopes.{OpenScopes, declared}
+use Rattle.c_scopes.specs.Scopes.{OpenScopes}
 use Rattle.c_scopes.specs.Scopes.{left as left_scopes}
 use Rattle.c_scopes.specs.Scopes.{entered}
-use Rattle.c_scopes.specs.Events.{Event, Opens, Closes, Declares, Uses}
+use Rattle.c_scopes.specs.Events.{Event, Opens, Closes, Declares}
 use Rattle.reading.specs.Terminals.{has}
 use Rattle.reading.specs.declared.turn.Turn.{Turn}
 use Rattle.reading.specs.declared.turn.Turn.TheVariants.{Again, Done}
@@ -23,10 +23,9 @@ use Rattle.c_syntax.specs.Scoping.{Part, is_typedef_name, terminal_of}
 use Rattle.c_syntax.specs.Steps.{one_among}
 use Rattle.c_specifiers.specs.Words.{NamedToken}
 use Rattle.c_specifiers.specs.DeclarationSteps.{one_word, entering, leaving, declaring, with_name}
-use Rattle.expression_trees.specs.Saying.{Said, nothing, ◌and◌, AreKnown, AreSaid}
+use Rattle.expression_trees.specs.Saying.{Said, ◌and◌, AreKnown, AreSaid}
 use Rattle.expression_trees.proofs.Front.{Open, Before, Says, IsOf, known_cut}
-use Rattle.expression_trees.proofs.Meaning.{met_then}
-use Rattle.declaration_trees.specs.Numbering.{Runs, IsNoParen, StandAsTrees}
+use Rattle.declaration_trees.specs.Numbering.{Runs, IsNoParen}
 
 runs_cut : (at stop : ℕ) (v w : List (Leveled KeptToken)) → Runs at (v ++ w) stop → (middle : ℕ) × Runs at v middle × Runs middle w stop
 runs_cut at stop [] w r = (at, refl, r)

@@ -1,7 +1,6 @@
 -- The theorem: what the rules of specifiers read are trees.
 
-use Rattle.std.proofs.Common.{◌≡◌, ℕ, List, Option, map, refl, sym, ap, ◌∙◌}
-use Rattle.std.specs.List.{list_any}
+use Rattle.std.proofs.Common.{ℕ, List, Option, sym, ap, ◌∙◌}
 use Rattle.c_lexer.specs.declared.token.Kind.{Kind}
 use Rattle.c_tree.specs.Shape.{Inner as Contents}
 use Rattle.c_tree.specs.TreeEvents.{Met}

@@ -1,6 +1,6 @@
 -- What the tokens of declarations are said to be; lists of words.
 
-use Rattle.std.proofs.Common.{◌≡◌, ◌⊎◌, inl, inr, ℕ, zero, suc, ◌==◌, ◌||◌, Bool, true, false, List, [], ◌∷◌, ◌++◌, Option, Some, map, refl, sym, ap, ◌∙◌, subst, arith, eq-eqb}
+use Rattle.std.proofs.Common.{◌≡◌, ◌⊎◌, inl, inr, ℕ, suc, ◌==◌, ◌||◌, Bool, true, false, List, [], ◌∷◌, ◌++◌, Option, Some, map, refl, sym, ap, ◌∙◌, subst, arith, eq-eqb}
 use Rattle.std.specs.List.{Contains, Any, list_any}
 use Rattle.c_lexer.specs.declared.token.Kind.{Kind}
 use Rattle.c_lexer.specs.declared.token.Kind.TheVariants as k
@@ -11,9 +11,8 @@ use Rattle.c_scopes.specs.Scopes.{OpenScopes}
 use Rattle.c_tree.specs.declared.symbol.Want.{Want}
 use Rattle.c_tree.specs.declared.symbol.Want.TheVariants as want
 use Rattle.c_tree.specs.declared.symbol.Slot.TheVariants as slot
-use Rattle.c_tree.specs.Fits.{Fits, IsKeyAmong, storage_classes, function_specifiers, qualifiers}
+use Rattle.c_tree.specs.Fits.{Fits, function_specifiers, qualifiers}
 use Rattle.c_tree.specs.Spell.{Symbols}
-use Rattle.c_tree.specs.TreeEvents.{is_typedef_key}
 use Rattle.reading.specs.Terminals.{has}
 use Rattle.reading.proofs.Sets.{never}
 use Rattle.c_reading.specs.Kept.{KeptToken}
@@ -22,10 +21,10 @@ use Rattle.c_reading.specs.Terminals.{key, terminal_where}
 use Rattle.c_syntax.specs.Scoping.{is_typedef_name}
 use Rattle.c_syntax.specs.Sets.{a_plain_qualifier, a_record}
 use Rattle.c_specifiers.specs.DeclarationSets.{a_storage_class, a_function_specifier}
-use Rattle.expression_trees.specs.Saying.{Said, ◌and◌, token, FitTokens, AreMet, AreSaid}
+use Rattle.expression_trees.specs.Saying.{Said, token, FitTokens, AreMet, AreSaid}
 use Rattle.expression_trees.proofs.Front.{Says, IsOf}
 use Rattle.expression_trees.proofs.FormsSay.{each}
-use Rattle.expression_trees.proofs.Tokens.{keys_among, contains_here, contains_later, contains_cases, contains_none, one_of}
+use Rattle.expression_trees.proofs.Tokens.{keys_among, contains_later, contains_cases, contains_none, one_of}
 
 -- ---- Some of a list
 
@@ -146,6 +145,7 @@ module _ (kind_of : ℕ → Option Kind) (bytes_of : ℕ → List ℕ) where
       last : (n : ℕ) → (KEY_RESTRICT ≡ n) ⊎ Contains (KEY_VOLATILE ∷ []) n → Contains qualifiers n
       last n (inl e) = subst (Contains qualifiers) e (1, omega arith, refl)
       last n (inr c) = subst (Contains qualifiers) (sym (one_of KEY_VOLATILE n c)) (2, omega arith, refl)
+
       of : (n : ℕ) → (KEY_CONST ≡ n) ⊎ Contains (KEY_RESTRICT ∷ KEY_VOLATILE ∷ []) n → Contains qualifiers n
       of n (inl e) = subst (Contains qualifiers) e (0, omega arith, refl)
       of n (inr c) = last n (contains_cases KEY_RESTRICT n (KEY_VOLATILE ∷ []) c)

@@ -9,7 +9,7 @@ use Rattle.c_scopes.specs.Scopes.{OpenScopes}
 use Rattle.reading.specs.Languages.{Leveled, tokens_of}
 use Rattle.c_reading.specs.Kept.{KeptToken}
 use Rattle.c_syntax.specs.Scoping.{Part}
-use Rattle.expression_trees.specs.Saying.{Said, AreKnown, AreSaid, IsWord}
+use Rattle.expression_trees.specs.Saying.{Said, AreKnown, AreSaid}
 
 -- The tokens have the numbers from the one on to the other, which is that of the token behind them.
 abbrev pub Runs : ℕ → List (Leveled KeptToken) → ℕ → Type 0
