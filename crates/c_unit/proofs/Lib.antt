@@ -1,0 +1,4 @@
+pub mod ReadLater
+pub mod UnitsAreRead
+pub mod Replaying
+pub mod AheadOfFiles

@@ -1,0 +1,74 @@
+-- A file that is read anew, and the tokens that are passed.
+
+use Rattle.std.proofs.Common.{◌≡◌, ℕ, zero, suc, ◌+◌, ◌≤◌, length, max, nat_lt, Bool, true, false, if◌then◌else◌, List, [], ◌∷◌, ◌++◌, drop, Option, Some, None, Ok, Err, refl, sym, ap, ◌∙◌, subst, arith}
+use Rattle.std.specs.List.{slice_get}
+use Rattle.std.proofs.lemmas.Bool.Decides.{nat_tests}
+use Rattle.c_tree.specs.declared.tree.Item.{Item}
+use Rattle.c_scopes.specs.Scopes.{OpenScopes}
+use Rattle.reading.specs.Readers.{Input, Outcome, and_then}
+use Rattle.c_reading.specs.Kept.{KeptToken}
+use Rattle.c_reading.specs.Cursors.{Around, number_ahead}
+use Rattle.c_syntax.specs.Scoping.{PartReader}
+use Rattle.c_stmt.specs.Below.{BelowReaders}
+use Rattle.c_unit.specs.declared.forms.Head.{Head}
+use Rattle.c_unit.specs.Later.{further}
+use Rattle.c_unit.specs.UnitReaders.{picked}
+use Rattle.c_unit.specs.Replays.{replays}
+
+-- What stands at a place, and what is behind it.
+pub drop_some : {A : Type 0} (xs : List A) (n : ℕ) (x : A) → slice_get xs n ≡ Some x → drop n xs ≡ x ∷ drop (n + 1) xs
+drop_some [] n x e = absurd (cc)
+drop_some (y ∷ xs) zero x e = ap (λ v. v ∷ xs) (let f : y ≡ x = cc in f)
+drop_some (y ∷ xs) (suc n) x e = let next : suc (n + 1) ≡ suc n + 1 = omega arith in drop_some xs n x e ∙ ap (λ m. x ∷ drop m (y ∷ xs)) next
+
+pub drop_none : {A : Type 0} (xs : List A) (n : ℕ) → slice_get xs n ≡ None → drop n xs ≡ []
+drop_none [] zero e = refl
+drop_none [] (suc n) e = refl
+drop_none (y ∷ xs) zero e = absurd (cc)
+drop_none (y ∷ xs) (suc n) e = drop_none xs n e
+
+pub drop_past : {A : Type 0} (xs : List A) (n : ℕ) → length xs ≤ n → drop n xs ≡ []
+drop_past [] zero h = refl
+drop_past [] (suc n) h = refl
+drop_past (y ∷ xs) zero h = absurd (omega arith)
+drop_past (y ∷ xs) (suc n) h = drop_past xs n (omega arith)
+
+abbrev Place : Type 0
+Place = Input KeptToken OpenScopes Around
+
+abbrev place_in : {A : Type 0} → Place → Outcome KeptToken OpenScopes Around A → Place
+place_in other (Ok end) = end.1
+place_in other (Err halt) = other
+
+-- One more is read behind those that were.
+pub one_more : (below : BelowReaders) (head : ℕ → PartReader Head) (room : ℕ) (before : List Bool) (definition : Bool) (begin at next : Place) (item : Item) →
+    replays below head room before begin ≡ Ok (tt, at) → picked below head room definition at ≡ Ok (item, next) →
+    replays below head room (before ++ definition ∷ []) begin ≡ Ok (tt, next)
+unfolding replays
+one_more below head room [] definition begin at next item e f =
+    let same : begin ≡ at = ap (place_in {A = Prim.Unit {0}} begin) e in
+    ap (λ (i : Place). and_then (picked below head room definition i) (λ next. replays below head room [])) same
+    ∙ ap (λ (o : Outcome KeptToken OpenScopes Around Item). and_then o (λ next. replays below head room [])) f
+one_more below head room (first ∷ before) definition begin at next item e f = behind (picked below head room first begin) e
+  where
+    behind : (o : Outcome KeptToken OpenScopes Around Item) → and_then o (λ next. replays below head room before) ≡ Ok (tt, at) →
+        and_then o (λ next. replays below head room (before ++ definition ∷ [])) ≡ Ok (tt, next)
+    behind (Ok end) g = one_more below head room before definition end.1 at next item g f
+    behind (Err halt) g = absurd (cc)
+
+-- ---- One of those that are read anew
+
+pub one_replay : (below : BelowReaders) (head : ℕ → PartReader Head) (room : ℕ) (all : List Bool) (n : ℕ) (definition : Bool) (at : Place) {o : Outcome KeptToken OpenScopes Around (Prim.Unit {0})} →
+    slice_get all n ≡ Some definition → o ≡ replays below head room (drop n all) at →
+    o ≡ and_then (picked below head room definition at) (λ next. replays below head room (drop (n + 1) all))
+unfolding replays
+one_replay below head room all n definition at here e = e ∙ ap (λ (more : List Bool). replays below head room more at) (drop_some all n definition here)
+
+-- ---- The later of two stops
+
+pub later_number : (at other : Place) → number_ahead (further at other) ≡ max (number_ahead at) (number_ahead other)
+later_number at other = by (nat_lt (number_ahead other) (number_ahead at)) refl
+  where
+    by : (b : Bool) → nat_lt (number_ahead other) (number_ahead at) ≡ b → number_ahead (if b then at else other) ≡ max (number_ahead at) (number_ahead other)
+    by true e = grind (arith, nat_tests)
+    by false e = grind (arith, nat_tests)
