@@ -1,4 +1,5 @@
 pub mod ReadLater
 pub mod UnitsAreRead
 pub mod Replaying
+pub mod ReadTwice
 pub mod AheadOfFiles

@@ -5,9 +5,12 @@ use Rattle.std.specs.List.{slice_get}
 use Rattle.std.proofs.lemmas.Bool.Decides.{nat_tests}
 use Rattle.c_tree.specs.declared.tree.Item.{Item}
 use Rattle.c_scopes.specs.Scopes.{OpenScopes}
-use Rattle.reading.specs.Readers.{Input, Outcome, and_then}
+use Rattle.reading.specs.Readers.{Input, Outcome, and_then, offends, too_deep}
 use Rattle.c_reading.specs.Kept.{KeptToken}
 use Rattle.c_reading.specs.Cursors.{Around, number_ahead}
+use Rattle.c_reading.specs.declared.stop.Stop.{Stop}
+use Rattle.c_reading.specs.declared.stop.Stop.TheVariants as stop
+use Rattle.c_reading.specs.Reads.{Halts}
 use Rattle.c_syntax.specs.Scoping.{PartReader}
 use Rattle.c_stmt.specs.Below.{BelowReaders}
 use Rattle.c_unit.specs.declared.forms.Head.{Head}
@@ -33,7 +36,7 @@ drop_past [] (suc n) h = refl
 drop_past (y ∷ xs) zero h = absurd (omega arith)
 drop_past (y ∷ xs) (suc n) h = drop_past xs n (omega arith)
 
-abbrev Place : Type 0
+abbrev pub Place : Type 0
 Place = Input KeptToken OpenScopes Around
 
 abbrev place_in : {A : Type 0} → Place → Outcome KeptToken OpenScopes Around A → Place
@@ -63,6 +66,35 @@ pub one_replay : (below : BelowReaders) (head : ℕ → PartReader Head) (room :
     o ≡ and_then (picked below head room definition at) (λ next. replays below head room (drop (n + 1) all))
 unfolding replays
 one_replay below head room all n definition at here e = e ∙ ap (λ (more : List Bool). replays below head room more at) (drop_some all n definition here)
+
+-- A reading that stops stops what it begins.
+pub halts_then : {A B : Type 0} (o : Outcome KeptToken OpenScopes Around A) (q : A → PartReader B) (s : Stop) → Halts o s → Halts (and_then o q) s
+halts_then o q (stop.Offends token) h = (h.0, ap (λ (z : Outcome KeptToken OpenScopes Around A). and_then z q) h.1, h.2)
+halts_then o q (stop.TooDeep token) h = (h.0, ap (λ (z : Outcome KeptToken OpenScopes Around A). and_then z q) h.1, h.2)
+halts_then o q stop.Memory h = tt
+
+module _ (below : BelowReaders) (head : ℕ → PartReader Head) (room : ℕ) (all : List Bool) (n : ℕ) (at : Place) {o : Outcome KeptToken OpenScopes Around (Prim.Unit {0})}
+    (left : o ≡ replays below head room (drop n all) at) where
+  -- One of them stops, or goes on; or none is left.
+  pub replay_stops : (definition : Bool) (s : Stop) → slice_get all n ≡ Some definition → Halts (picked below head room definition at) s → Halts o s
+  replay_stops definition s here h =
+      subst (λ (z : Outcome KeptToken OpenScopes Around (Prim.Unit {0})). Halts z s) (sym (one_replay below head room all n definition at here left))
+      (halts_then (picked below head room definition at) (λ next. replays below head room (drop (n + 1) all)) s h)
+
+  pub replay_goes_on : (definition : Bool) (item : Item) (next : Place) → slice_get all n ≡ Some definition → picked below head room definition at ≡ Ok (item, next) →
+      o ≡ replays below head room (drop (n + 1) all) next
+  replay_goes_on definition item next here e =
+      one_replay below head room all n definition at here left
+      ∙ ap (λ (z : Outcome KeptToken OpenScopes Around Item). and_then z (λ next. replays below head room (drop (n + 1) all))) e
+
+  pub replay_ends : length all ≤ n → o ≡ Ok (tt, at)
+  unfolding replays
+  replay_ends h = left ∙ ap (λ (more : List Bool). replays below head room more at) (drop_past all n h)
+
+-- Behind the replay of those before it.
+pub behind_replay : {A : Type 0} {o : Outcome KeptToken OpenScopes Around (Prim.Unit {0})} (at : Place) (q : PartReader A) → o ≡ Ok (tt, at) →
+    and_then o (λ behind. q) ≡ q at
+behind_replay at q e = ap (λ (z : Outcome KeptToken OpenScopes Around (Prim.Unit {0})). and_then z (λ behind. q)) e
 
 -- ---- The later of two stops
 

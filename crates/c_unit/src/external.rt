@@ -88,11 +88,13 @@ impl<'t, B: Below + Heads + Copy> Grammar<'t, B> {
 
     /// The external declaration behind these, by the other reading.
     fn again(&self, definition: bool, definitions: &[bool]) -> Result<External<'t>, Stop>
-        ensures { Takes (and_then (replays (B.readers self.now.below) (B.heads self.now.below)
-            self.now.room definitions.now (beginning_of self.now.text.bytes.now
-            self.now.text.tokens.now self.now.text.kept.now))
+        ensures reads { Takes (and_then (replays (B.readers self.now.below)
+            (B.heads self.now.below) self.now.room definitions.now
+            (beginning_of self.now.text.bytes.now self.now.text.tokens.now
+            self.now.text.kept.now))
             (λ behind. spec.picked (B.readers self.now.below) (B.heads self.now.below)
             self.now.room definition)) result }
+        ensures kept { IfOk result (λ taken. taken.definition ≡ definition) }
     {
         let mut source = self.replayed(definitions)?;
         let item = self.picked(definition, &mut source)?;

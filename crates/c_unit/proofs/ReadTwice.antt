@@ -1,0 +1,60 @@
+-- The two readings of an external declaration, of which the one is tried first.
+
+use Rattle.std.proofs.Common.{◌≡◌, ℕ, max, Bool, not, Ok, Err, refl, sym, ap, ◌∙◌, subst}
+use Rattle.c_tree.specs.declared.tree.Item.{Item}
+use Rattle.c_scopes.specs.Scopes.{OpenScopes}
+use Rattle.reading.specs.Readers.{Input, Outcome, offends, too_deep}
+use Rattle.c_reading.specs.Kept.{KeptToken}
+use Rattle.c_reading.specs.Cursors.{Around, number_ahead}
+use Rattle.c_reading.specs.declared.stop.Stop.{Stop}
+use Rattle.c_reading.specs.declared.stop.Stop.TheVariants as stop
+use Rattle.c_reading.specs.Reads.{Halts}
+use Rattle.c_syntax.specs.Scoping.{PartReader}
+use Rattle.c_stmt.specs.Below.{BelowReaders}
+use Rattle.c_unit.specs.declared.forms.Head.{Head}
+use Rattle.c_unit.specs.Later.{further, behind_first}
+use Rattle.c_unit.specs.UnitReaders.{picked, read_twice, external}
+use Rattle.c_unit.proofs.Replaying.{Place, later_number}
+
+module _ (below : BelowReaders) (head : ℕ → PartReader Head) (room : ℕ) (is_definition : ℕ → Bool) (at : Place) (first : Bool) (chosen : first ≡ is_definition (number_ahead at)) where
+  abbrev One : Bool → Outcome KeptToken OpenScopes Around Item
+  One which = picked below head room which at
+
+  abbrev Both : Outcome KeptToken OpenScopes Around Item
+  Both = external below head room is_definition at
+
+  opened : Both ≡ behind_first (One first) (One (not first))
+  unfolding external
+  opened = ap (λ (b : Bool). read_twice below head room b at) (sym chosen)
+
+  -- The first goes on.
+  pub first_counts : (item : Item) (next : Place) → One first ≡ Ok (item, next) → Both ≡ Ok (item, next)
+  first_counts item next e = opened ∙ ap (λ (o : Outcome KeptToken OpenScopes Around Item). behind_first o (One (not first))) e
+
+  -- It stops, and offends nowhere.
+  pub first_stops : (s : Stop) → ((token : ℕ) → s ≡ stop.Offends token → ⊥) → Halts (One first) s → Halts Both s
+  first_stops (stop.Offends token) no h = absurd (no token refl)
+  first_stops (stop.TooDeep token) no h = (h.0, opened ∙ ap (λ (o : Outcome KeptToken OpenScopes Around Item). behind_first o (One (not first))) h.1, h.2)
+  first_stops stop.Memory no h = tt
+
+  -- It offends somewhere, and the second counts.
+  behind_it : (token : ℕ) (h : Halts (One first) (stop.Offends token)) (o : Outcome KeptToken OpenScopes Around Item) → One (not first) ≡ o → Both ≡ behind_first (Err (offends h.0)) o
+  behind_it token h o e =
+      opened ∙ (ap (λ (z : Outcome KeptToken OpenScopes Around Item). behind_first z (One (not first))) h.1
+      ∙ ap (λ (z : Outcome KeptToken OpenScopes Around Item). behind_first (Err (offends h.0)) z) e)
+
+  pub second_counts : (token : ℕ) (item : Item) (next : Place) → Halts (One first) (stop.Offends token) → One (not first) ≡ Ok (item, next) → Both ≡ Ok (item, next)
+  second_counts token item next h e = behind_it token h (Ok (item, next)) e
+
+  pub second_stops : (token : ℕ) (s : Stop) → ((other : ℕ) → s ≡ stop.Offends other → ⊥) → Halts (One first) (stop.Offends token) → Halts (One (not first)) s → Halts Both s
+  second_stops token (stop.Offends other) no h k = absurd (no other refl)
+  second_stops token (stop.TooDeep other) no h k = (k.0, behind_it token h (Err (too_deep k.0)) k.1, k.2)
+  second_stops token stop.Memory no h k = tt
+
+  -- Both offend, and the later stop counts.
+  pub later_stops : (token other : ℕ) → Halts (One first) (stop.Offends token) → Halts (One (not first)) (stop.Offends other) → Halts Both (stop.Offends (max token other))
+  later_stops token other h k = (
+    further h.0 k.0,
+    behind_it token h (Err (offends k.0)) k.1,
+    ap (λ n. max n other) h.2 ∙ (ap (λ n. max (number_ahead h.0) n) k.2 ∙ sym (later_number h.0 k.0)),
+  )
