@@ -1,7 +1,8 @@
 -- A file that is read anew, and the tokens that are passed.
 
-use Rattle.std.proofs.Common.{◌≡◌, ℕ, zero, suc, ◌+◌, ◌≤◌, length, max, nat_lt, Bool, true, false, if◌then◌else◌, List, [], ◌∷◌, ◌++◌, drop, Option, Some, None, Ok, Err, refl, sym, ap, ◌∙◌, subst, arith}
+use Rattle.std.proofs.Common.{◌≡◌, ℕ, zero, suc, ◌+◌, ◌<◌, ◌≤◌, length, max, nat_lt, Bool, true, false, if◌then◌else◌, List, [], ◌∷◌, ◌++◌, drop, get_or, Option, Some, None, Result, Ok, Err, refl, sym, ap, ◌∙◌, subst, arith}
 use Rattle.std.specs.List.{slice_get}
+use Rattle.std.proofs.lemmas.List.{drop_more}
 use Rattle.std.proofs.lemmas.Bool.Decides.{nat_tests}
 use Rattle.c_tree.specs.declared.tree.Item.{Item}
 use Rattle.c_scopes.specs.Scopes.{OpenScopes}
@@ -10,7 +11,7 @@ use Rattle.c_reading.specs.Kept.{KeptToken}
 use Rattle.c_reading.specs.Cursors.{Around, number_ahead}
 use Rattle.c_reading.specs.declared.stop.Stop.{Stop}
 use Rattle.c_reading.specs.declared.stop.Stop.TheVariants as stop
-use Rattle.c_reading.specs.Reads.{Halts}
+use Rattle.c_reading.specs.Reads.{Halts, Reads}
 use Rattle.c_syntax.specs.Scoping.{PartReader}
 use Rattle.c_stmt.specs.Below.{BelowReaders}
 use Rattle.c_unit.specs.declared.forms.Head.{Head}
@@ -61,32 +62,35 @@ one_more below head room (first ∷ before) definition begin at next item e f = 
 
 -- ---- One of those that are read anew
 
-pub one_replay : (below : BelowReaders) (head : ℕ → PartReader Head) (room : ℕ) (all : List Bool) (n : ℕ) (definition : Bool) (at : Place) {o : Outcome KeptToken OpenScopes Around (Prim.Unit {0})} →
-    slice_get all n ≡ Some definition → o ≡ replays below head room (drop n all) at →
-    o ≡ and_then (picked below head room definition at) (λ next. replays below head room (drop (n + 1) all))
-unfolding replays
-one_replay below head room all n definition at here e = e ∙ ap (λ (more : List Bool). replays below head room more at) (drop_some all n definition here)
-
 -- A reading that stops stops what it begins.
 pub halts_then : {A B : Type 0} (o : Outcome KeptToken OpenScopes Around A) (q : A → PartReader B) (s : Stop) → Halts o s → Halts (and_then o q) s
-halts_then o q (stop.Offends token) h = (h.0, ap (λ (z : Outcome KeptToken OpenScopes Around A). and_then z q) h.1, h.2)
-halts_then o q (stop.TooDeep token) h = (h.0, ap (λ (z : Outcome KeptToken OpenScopes Around A). and_then z q) h.1, h.2)
+halts_then o q (stop.Offends token) h = (h.0, ap (λ (z : Outcome KeptToken OpenScopes Around _). and_then z q) h.1, h.2)
+halts_then o q (stop.TooDeep token) h = (h.0, ap (λ (z : Outcome KeptToken OpenScopes Around _). and_then z q) h.1, h.2)
 halts_then o q stop.Memory h = tt
 
 module _ (below : BelowReaders) (head : ℕ → PartReader Head) (room : ℕ) (all : List Bool) (n : ℕ) (at : Place) {o : Outcome KeptToken OpenScopes Around (Prim.Unit {0})}
     (left : o ≡ replays below head room (drop n all) at) where
-  -- One of them stops, or goes on; or none is left.
-  pub replay_stops : (definition : Bool) (s : Stop) → slice_get all n ≡ Some definition → Halts (picked below head room definition at) s → Halts o s
-  replay_stops definition s here h =
-      subst (λ (z : Outcome KeptToken OpenScopes Around (Prim.Unit {0})). Halts z s) (sym (one_replay below head room all n definition at here left))
-      (halts_then (picked below head room definition at) (λ next. replays below head room (drop (n + 1) all)) s h)
+  abbrev behind : Item → PartReader (Prim.Unit {0})
+  behind next = replays below head room (drop (n + 1) all)
 
-  pub replay_goes_on : (definition : Bool) (item : Item) (next : Place) → slice_get all n ≡ Some definition → picked below head room definition at ≡ Ok (item, next) →
+  -- One is left.
+  pub one_replay : (d : Bool) → n < length all → o ≡ and_then (picked below head room (get_or all n d) at) behind
+  unfolding replays
+  one_replay d h = left ∙ ap (λ (more : List Bool). replays below head room more at) (drop_more all n d h)
+
+  -- It stops, or goes on.
+  pub replay_stops : (d : Bool) (r : Result Item Stop) (next : Place) (s : Stop) → n < length all → Reads (picked below head room (get_or all n d) at) r next → r ≡ Err s → Halts o s
+  replay_stops d r next s h reads was =
+      subst (λ (z : Outcome KeptToken OpenScopes Around (Prim.Unit {0})). Halts z s) (sym (one_replay d h))
+      (halts_then (picked below head room (get_or all n d) at) behind s (subst (λ (z : Result Item Stop). Reads (picked below head room (get_or all n d) at) z next) was reads))
+
+  pub replay_goes_on : (d : Bool) (r : Result Item Stop) (next : Place) (item : Item) → n < length all → Reads (picked below head room (get_or all n d) at) r next → r ≡ Ok item →
       o ≡ replays below head room (drop (n + 1) all) next
-  replay_goes_on definition item next here e =
-      one_replay below head room all n definition at here left
-      ∙ ap (λ (z : Outcome KeptToken OpenScopes Around Item). and_then z (λ next. replays below head room (drop (n + 1) all))) e
+  replay_goes_on d r next item h reads was =
+      one_replay d h
+      ∙ ap (λ (z : Outcome KeptToken OpenScopes Around Item). and_then z behind) (subst (λ (z : Result Item Stop). Reads (picked below head room (get_or all n d) at) z next) was reads)
 
+  -- None is left.
   pub replay_ends : length all ≤ n → o ≡ Ok (tt, at)
   unfolding replays
   replay_ends h = left ∙ ap (λ (more : List Bool). replays below head room more at) (drop_past all n h)
