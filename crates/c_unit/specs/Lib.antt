@@ -6,4 +6,5 @@ pub mod UnitRules
 pub mod UnitReaders
 pub mod Replays
 pub mod Gives
+pub mod Tries
 pub mod ExactFiles

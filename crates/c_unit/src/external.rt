@@ -13,6 +13,7 @@ ghost use Rattle.c_unit.specs.Beginnings.{is_definition_at};
 ghost use Rattle.c_unit.specs.Gives.{GoesTo, Takes};
 ghost use Rattle.c_unit.specs.Replays.{replays};
 ghost use Rattle.c_unit.specs.Texts.{beginning_of};
+ghost use Rattle.c_unit.specs.Tries as told;
 ghost use Rattle.c_unit.specs.UnitReaders as spec;
 
 use crate::beginning::is_definition_at;
@@ -24,6 +25,37 @@ use c_stmt::{Below, read_block};
 use c_syntax::Source;
 use c_tree::Item;
 use std::alloc::Global;
+
+/// What the first reading tells.
+#[derive(Drop)]
+pub(crate) enum Tried<'t> {
+    /// It counts.
+    Counts(Result<External<'t>, Stop>),
+    /// This token offends it, so that the other is tried.
+    Offends(u32),
+}
+
+/// What it tells that it gave this.
+fn tried<'t>(first: Result<External<'t>, Stop>) -> Tried<'t>
+    ensures { result ≡ told.tried first.entry }
+{
+    match first {
+        Err(Stop::Offends { token }) => Tried::Offends(token),
+        first => Tried::Counts(first),
+    }
+}
+
+/// What the second gives, or the later of both stops.
+fn later<'t>(token: u32, second: Result<External<'t>, Stop>) -> Result<External<'t>, Stop>
+    ensures { result ≡ told.later_of token second.entry }
+{
+    match second {
+        Err(Stop::Offends { token: other }) => Err(Stop::Offends {
+            token: token.max(other),
+        }),
+        second => second,
+    }
+}
 
 /// The rules of files, with the readers of what they are made of, and a file.
 #[derive(Clone, Copy)]
@@ -105,6 +137,21 @@ impl<'t, B: Below + Heads + Copy> Grammar<'t, B> {
         })
     }
 
+    /// The external declaration that is next, by this reading.
+    fn first(&self, definition: bool, source: Source<'t>) -> Result<External<'t>, Stop>
+        ensures reads { Takes (spec.picked (B.readers self.now.below) (B.heads self.now.below)
+            self.now.room definition (input_from source.entry)) result }
+        ensures kept { IfOk result (λ taken. taken.definition ≡ definition) }
+    {
+        let mut source = source;
+        let item = self.picked(definition, &mut source)?;
+        Ok(External {
+            item,
+            definition,
+            source,
+        })
+    }
+
     /// An external declaration. It is given how those before it were read.
     pub(crate) fn external(
         &self,
@@ -121,22 +168,11 @@ impl<'t, B: Below + Heads + Copy> Grammar<'t, B> {
             (B.heads self.now.below) self.now.room taken.definition (input_from source.entry)
             ≡ Ok (taken.item, input_from taken.source)) }
     {
-        let mut source = source;
         let at = source.cursor.at() as usize;
         let definition = is_definition_at(self.text.tokens, self.text.kept, at);
-        match self.picked(definition, &mut source) {
-            Ok(item) => Ok(External {
-                item,
-                definition,
-                source,
-            }),
-            Err(Stop::Offends { token }) => match self.again(!definition, definitions) {
-                Err(Stop::Offends { token: other }) => Err(Stop::Offends {
-                    token: token.max(other),
-                }),
-                result => result,
-            },
-            Err(stop) => Err(stop),
+        match tried(self.first(definition, source)) {
+            Tried::Counts(first) => first,
+            Tried::Offends(token) => later(token, self.again(!definition, definitions)),
         }
     }
 }
