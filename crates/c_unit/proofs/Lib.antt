@@ -3,3 +3,4 @@ pub mod UnitsAreRead
 pub mod Replaying
 pub mod ReadTwice
 pub mod AheadOfFiles
+pub mod ItemByItem

@@ -36,7 +36,7 @@ pub(crate) enum Tried<'t> {
 }
 
 /// What it tells that it gave this.
-fn tried<'t>(first: Result<External<'t>, Stop>) -> Tried<'t>
+fn told_by<'t>(first: Result<External<'t>, Stop>) -> Tried<'t>
     ensures { result ≡ told.tried first.entry }
 {
     match first {
@@ -170,7 +170,7 @@ impl<'t, B: Below + Heads + Copy> Grammar<'t, B> {
     {
         let at = source.cursor.at() as usize;
         let definition = is_definition_at(self.text.tokens, self.text.kept, at);
-        match tried(self.first(definition, source)) {
+        match told_by(self.first(definition, source)) {
             Tried::Counts(first) => first,
             Tried::Offends(token) => later(token, self.again(!definition, definitions)),
         }
