@@ -6,7 +6,7 @@ use Rattle.c_unit.specs.Replays.{replays}
 use Rattle.c_unit.specs.Texts.{beginning_of}
 use Rattle.c_unit.specs.UnitSets.{begins_external}
 use Rattle.c_unit.specs.UnitReaders as read
-use Rattle.c_unit.proofs.unit.Grammar.all_items.Given as goal
+use Rattle.c_unit.proofs.external.Grammar.all_items.Given as goal
 
 abbrev pub invariant-loop-turn : goal.invariant-loop-turn
 invariant-loop-turn g l = record {
