@@ -3,7 +3,7 @@
 use Rattle.std.proofs.Common.{◌≡◌, ℕ, max, Bool, not, Result, Ok, Err, IfOk, refl, sym, ap, ◌∙◌, subst}
 use Rattle.c_tree.specs.declared.tree.Item.{Item}
 use Rattle.c_scopes.specs.Scopes.{OpenScopes}
-use Rattle.reading.specs.Readers.{Input, Outcome, offends, too_deep}
+use Rattle.reading.specs.Readers.{Input, Outcome, and_then, offends, too_deep}
 use Rattle.c_reading.specs.Kept.{KeptToken}
 use Rattle.c_reading.specs.Cursors.{Around, number_ahead}
 use Rattle.c_reading.specs.declared.stop.Stop.{Stop}
@@ -18,7 +18,7 @@ use Rattle.c_unit.specs.Gives.{Takes}
 use Rattle.c_unit.specs.Tries.{tried, later_of}
 use Rattle.c_unit.specs.Later.{further, behind_first}
 use Rattle.c_unit.specs.UnitReaders.{picked, read_twice, external}
-use Rattle.c_unit.proofs.Replaying.{Place, later_number}
+use Rattle.c_unit.proofs.Replaying.{Place, later_number, behind_replay}
 
 module _ (below : BelowReaders) (head : ℕ → PartReader Head) (room : ℕ) (is_definition : ℕ → Bool) (at : Place) (first : Bool) (chosen : first ≡ is_definition (number_ahead at)) where
   abbrev One : Bool → Outcome KeptToken OpenScopes Around Item
@@ -37,9 +37,9 @@ module _ (below : BelowReaders) (head : ℕ → PartReader Head) (room : ℕ) (i
 
   -- It stops, and offends nowhere.
   pub first_stops : (s : Stop) → ((token : ℕ) → s ≡ stop.Offends token → ⊥) → Halts (One first) s → Halts Both s
-  first_stops (stop.Offends token) no h = absurd (no token refl)
-  first_stops (stop.TooDeep token) no h = (h.0, opened ∙ ap (λ (o : Outcome KeptToken OpenScopes Around Item). behind_first o (One (not first))) h.1, h.2)
-  first_stops stop.Memory no h = tt
+  first_stops (stop.Offends token) never h = absurd (never token refl)
+  first_stops (stop.TooDeep token) never h = (h.0, opened ∙ ap (λ (o : Outcome KeptToken OpenScopes Around Item). behind_first o (One (not first))) h.1, h.2)
+  first_stops stop.Memory never h = tt
 
   -- It offends somewhere, and the second counts.
   behind_it : (token : ℕ) (h : Halts (One first) (stop.Offends token)) (o : Outcome KeptToken OpenScopes Around Item) → One (not first) ≡ o → Both ≡ behind_first (Err (offends h.0)) o
@@ -51,9 +51,9 @@ module _ (below : BelowReaders) (head : ℕ → PartReader Head) (room : ℕ) (i
   second_counts token item next h e = behind_it token h (Ok (item, next)) e
 
   pub second_stops : (token : ℕ) (s : Stop) → ((other : ℕ) → s ≡ stop.Offends other → ⊥) → Halts (One first) (stop.Offends token) → Halts (One (not first)) s → Halts Both s
-  second_stops token (stop.Offends other) no h k = absurd (no other refl)
-  second_stops token (stop.TooDeep other) no h k = (k.0, behind_it token h (Err (too_deep k.0)) k.1, k.2)
-  second_stops token stop.Memory no h k = tt
+  second_stops token (stop.Offends other) never h k = absurd (never other refl)
+  second_stops token (stop.TooDeep other) never h k = (k.0, behind_it token h (Err (too_deep k.0)) k.1, k.2)
+  second_stops token stop.Memory never h k = tt
 
   -- Both offend, and the later stop counts.
   pub later_stops : (token other : ℕ) → Halts (One first) (stop.Offends token) → Halts (One (not first)) (stop.Offends other) → Halts Both (stop.Offends (max token other))
@@ -95,3 +95,10 @@ module _ (below : BelowReaders) (head : ℕ → PartReader Head) (room : ℕ) (i
   later_counts r (Err (stop.Offends other)) token t e u k = (later_stops token other (offended r token t e) u, tt)
   later_counts r (Err (stop.TooDeep other)) token t e u k = (second_stops token (stop.TooDeep other) (λ n g. absurd (cc)) (offended r token t e) u, tt)
   later_counts r (Err stop.Memory) token t e u k = (tt, tt)
+
+  pub later_given : (o : Outcome KeptToken OpenScopes Around (Prim.Unit {0})) (r second given : Result External Stop) (token : ℕ) → o ≡ Ok (tt, at) →
+      Takes (One first) r → tried r ≡ Offends token → Takes (and_then o (λ behind. picked below head room (not first))) second → IfOk second (λ taken. taken.definition ≡ not first) →
+      given ≡ later_of token second → Takes Both given × Picks given
+  later_given o r second given token before t e u k is =
+      subst (λ (z : Result External Stop). Takes Both z × Picks z) (sym is)
+      (later_counts r second token t e (subst (λ (z : Outcome KeptToken OpenScopes Around Item). Takes z second) (behind_replay at (picked below head room (not first)) before) u) k)

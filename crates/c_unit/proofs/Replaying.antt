@@ -53,12 +53,14 @@ one_more below head room [] definition begin at next item e f =
     let same : begin ≡ at = ap (place_in {A = Prim.Unit {0}} begin) e in
     ap (λ (i : Place). and_then (picked below head room definition i) (λ next. replays below head room [])) same
     ∙ ap (λ (o : Outcome KeptToken OpenScopes Around Item). and_then o (λ next. replays below head room [])) f
-one_more below head room (first ∷ before) definition begin at next item e f = behind (picked below head room first begin) e
+one_more below head room (first ∷ before) definition begin at next item e f =
+    behind (λ (i : Place) g. one_more below head room before definition i at next item g f) (picked below head room first begin) e
   where
-    behind : (o : Outcome KeptToken OpenScopes Around Item) → and_then o (λ next. replays below head room before) ≡ Ok (tt, at) →
+    behind : ((i : Place) → replays below head room before i ≡ Ok (tt, at) → replays below head room (before ++ definition ∷ []) i ≡ Ok (tt, next)) →
+        (o : Outcome KeptToken OpenScopes Around Item) → and_then o (λ next. replays below head room before) ≡ Ok (tt, at) →
         and_then o (λ next. replays below head room (before ++ definition ∷ [])) ≡ Ok (tt, next)
-    behind (Ok end) g = one_more below head room before definition end.1 at next item g f
-    behind (Err halt) g = absurd (cc)
+    behind more (Ok end) g = more end.1 g
+    behind more (Err halt) g = absurd (cc)
 
 -- ---- One of those that are read anew
 
