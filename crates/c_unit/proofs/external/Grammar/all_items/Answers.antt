@@ -1,4 +1,4 @@
-use Rattle.std.proofs.Common.{rules, ◌≡◌, ◌+◌, ◌-◌, Bool, true, List, [], ◌∷◌, ◌++◌, sym, ap, ◌∙◌, arith}
+use Rattle.std.proofs.Common.{rules, ◌≡◌, ◌+◌, ◌-◌, Bool, true, false, List, [], ◌∷◌, ◌++◌, sym, ap, ◌∙◌, arith}
 use Rattle.std.proofs.lemmas.Grind.{common_steps}
 use Rattle.c_tree.specs.declared.tree.Item.{Item}
 use Rattle.reading.specs.Readers.{go_on, many, is_ahead}
@@ -10,7 +10,7 @@ use Rattle.c_unit.specs.Texts.{beginning_of}
 use Rattle.c_unit.specs.UnitSets.{begins_external}
 use Rattle.c_unit.specs.UnitReaders.{all_items}
 use Rattle.c_unit.proofs.Replaying.{one_more}
-use Rattle.c_unit.proofs.ItemByItem.{items_on, next_item, no_turn_is_left}
+use Rattle.c_unit.proofs.ItemByItem.{items_on, no_item, next_item, taken_stops, no_turn_is_left}
 use Rattle.c_unit.proofs.external.Grammar.all_items.Goals as goal
 
 pub loop-turn-init : goal.loop-turn-init
@@ -44,3 +44,21 @@ returns g c =
     let i = c.loop-turn in
     no_turn (λ n. items_on (g.B.Below.readers c.args.self.now.below) (g.B.Heads.heads c.args.self.now.below) c.args.self.now.room (is_definition_at c.args.self.now.text.tokens.now c.args.self.now.text.kept.now) n i.list (input_from i.source)) _ i._turn c.loop-turn-test.false i.invariant.all
     ∙ no_turn_is_left (g.B.Below.readers c.args.self.now.below) (g.B.Heads.heads c.args.self.now.below) c.args.self.now.room (is_definition_at c.args.self.now.text.tokens.now c.args.self.now.text.kept.now) i.list (input_from i.source)
+
+pub returns-then-not-is_at_external : goal.returns-then-not-is_at_external
+returns-then-not-is_at_external g c =
+    let i = c.loop-turn in
+    let e = one_turn (λ n. items_on (g.B.Below.readers c.args.self.now.below) (g.B.Heads.heads c.args.self.now.below) c.args.self.now.room (is_definition_at c.args.self.now.text.tokens.now c.args.self.now.text.kept.now) n i.list (input_from i.source))
+        _ i._turn c.loop-turn-test.true i.invariant.all in
+    let none : is_ahead terminal_of begins_external (input_from i.source) ≡ false = cc (c.is_at_external.ensures, c.if-not-is_at_external.true) in
+    no_item (g.B.Below.readers c.args.self.now.below) (g.B.Heads.heads c.args.self.now.below) c.args.self.now.room (is_definition_at c.args.self.now.text.tokens.now c.args.self.now.text.kept.now) (c.left-turn-end.result - (i._turn + 1)) i.list (input_from i.source) e none
+
+pub returns-in_err-item : goal.returns-in_err-item
+returns-in_err-item g c =
+    let i = c.loop-turn in
+    let e = one_turn (λ n. items_on (g.B.Below.readers c.args.self.now.below) (g.B.Heads.heads c.args.self.now.below) c.args.self.now.room (is_definition_at c.args.self.now.text.tokens.now c.args.self.now.text.kept.now) n i.list (input_from i.source))
+        _ i._turn c.loop-turn-test.true i.invariant.all in
+    let ahead : is_ahead terminal_of begins_external (input_from i.source) ≡ true = cc (c.is_at_external.ensures, c.if-not-is_at_external.false) in
+    let k = taken_stops (g.B.Below.readers c.args.self.now.below) (g.B.Heads.heads c.args.self.now.below) c.args.self.now.room (is_definition_at c.args.self.now.text.tokens.now c.args.self.now.text.kept.now) (c.left-turn-end.result - (i._turn + 1)) i.list (input_from i.source) e
+        c.external.result _ ahead c.external.ensures.reads c.in_err-item.was in
+    first_of (search (rules, k), grind (arith, common_steps, k))
