@@ -214,6 +214,9 @@ module _ (tokens : Tokens) (below : Below) (below_readers : BelowReaders) (rb : 
         by true e = let f = shorter_true l m e in grind (arith, nat_tests)
         by false e = let f = shorter_false l m e in grind (arith, nat_tests)
 
+    left_within : (end : ℕ) (ts : List KeptToken) (run : Word') (left : List KeptToken) → length ts ≤ end → ts ≡ tokens_of run ++ left → length left ≤ end
+    left_within end ts run left h e = let k = ap length e ∙ length-append (tokens_of run) left in omega arith
+
     same_later : (around : Around) (X Y : ℕ → Word' → Item × OpenScopes → Type 0) (ts : List KeptToken) (o o' : Outcome KeptToken OpenScopes Around Item) → length ts ≤ around.end →
         IsExact tokens.IsToken around X ts o → IsExact tokens.IsToken around Y ts o' → two.behind_first o o' ≡ behind_first o o'
     same_later around X Y ts o o' h (reads run left d a sc e sh x long) q = refl
@@ -224,10 +227,7 @@ module _ (tokens : Tokens) (below : Below) (below_readers : BelowReaders) (rb : 
         same_second o' (reads run' left' d' a' sc' e' sh' x' long') = refl
         same_second o' (exact.is_too_deep run' more' t' level' left' d' a' sc' e' sh' k' lex' x') = refl
         same_second o' (exact.refuses run' more' left' d' a' sc' e' sh' lex' x' long' none') =
-            ap (λ (b : Bool). let r : Outcome KeptToken OpenScopes Around Item = Err (offends (if b then At around sc left else At around sc' left')) in r) (same_shorter around.end left left' (left_of run left e) (left_of run' left' e'))
-
-        left_of : (run : Word') (left : List KeptToken) → ts ≡ tokens_of run ++ left → length left ≤ around.end
-        left_of run left e = let k = ap length e ∙ length-append (tokens_of run) left in omega arith
+            ap (λ (b : Bool). let r : Outcome KeptToken OpenScopes Around Item = Err (offends (if b then At around sc left else At around sc' left')) in r) (same_shorter around.end left left' (left_within around.end ts run left h e) (left_within around.end ts run' left' h e'))
 
     same_external : (around : Around) (scopes : OpenScopes) (ts : List KeptToken) → length ts ≤ around.end →
         read.external below_readers read_head room is_definition (At around scopes ts) ≡ either_first (At around scopes ts)
@@ -247,28 +247,34 @@ module _ (tokens : Tokens) (below : Below) (below_readers : BelowReaders) (rb : 
     unfolding read.more_items
     same_more items around scopes ts h = ap (λ (o : Outcome KeptToken OpenScopes Around Item). and_then o (λ next. reader.pure (items ++ next ∷ []))) (same_external around scopes ts h)
 
+    -- The same from some items on.
+    abbrev SameFrom : ℕ → Around → Type 0
+    SameFrom turns around = (items : List Item) (scopes : OpenScopes) (ts : List KeptToken) → length ts ≤ around.end →
+        go_on terminal_of begins_external (read.more_items below_readers read_head room is_definition) turns items (At around scopes ts)
+        ≡ go_on terminal_of begins_external one_more turns items (At around scopes ts)
+
     same_turns : (turns : ℕ) (items : List Item) (around : Around) (scopes : OpenScopes) (ts : List KeptToken) → length ts ≤ around.end →
         go_on terminal_of begins_external (read.more_items below_readers read_head room is_definition) turns items (At around scopes ts)
         ≡ go_on terminal_of begins_external one_more turns items (At around scopes ts)
     unfolding go_on
     same_turns zero items around scopes ts h = refl
-    same_turns (suc turns) items around scopes ts h = by (is_ahead terminal_of begins_external (At around scopes ts))
+    same_turns (suc turns) items around scopes ts h = by (λ a sc left k. same_turns turns a around sc left k) (is_ahead terminal_of begins_external (At around scopes ts))
       where
-        behind : (o : Outcome KeptToken OpenScopes Around (List Item)) → IsExact tokens.IsToken around (λ d. lang.more_items below head d items scopes) ts o →
+        behind : SameFrom turns around → (o : Outcome KeptToken OpenScopes Around (List Item)) → IsExact tokens.IsToken around (λ d. lang.more_items below head d items scopes) ts o →
             and_then o (go_on terminal_of begins_external (read.more_items below_readers read_head room is_definition) turns) ≡ and_then o (go_on terminal_of begins_external one_more turns)
-        behind o (reads run left d a sc e sh x long) = same_turns turns a around sc left (let k = ap length e ∙ length-append (tokens_of run) left in omega arith)
-        behind o (exact.refuses run more left d a sc e sh lex x long none) = refl
-        behind o (exact.is_too_deep run more t level left d a sc e sh k lex x) = refl
+        behind more o (reads run left d a sc e sh x long) = more a sc left (left_within around.end ts run left h e)
+        behind next o (exact.refuses run more left d a sc e sh lex x long none) = refl
+        behind next o (exact.is_too_deep run more t level left d a sc e sh k lex x) = refl
 
-        by : (b : Bool) →
+        by : SameFrom turns around → (b : Bool) →
             (if b then and_then (read.more_items below_readers read_head room is_definition items (At around scopes ts))
             (go_on terminal_of begins_external (read.more_items below_readers read_head room is_definition) turns) else Ok (items, At around scopes ts))
             ≡ (if b then and_then (one_more items (At around scopes ts)) (go_on terminal_of begins_external one_more turns) else Ok (items, At around scopes ts))
-        by false = refl
-        by true =
+        by next false = refl
+        by next true =
             ap (λ (o : Outcome KeptToken OpenScopes Around (List Item)). and_then o (go_on terminal_of begins_external (read.more_items below_readers read_head room is_definition) turns))
             (same_more items around scopes ts h)
-            ∙ behind (one_more items (At around scopes ts)) ((one_more_is_read {given = Prim.Unit {0}} items).exact tt tt around scopes ts)
+            ∙ behind next (one_more items (At around scopes ts)) ((one_more_is_read {given = Prim.Unit {0}} items).exact tt tt around scopes ts)
 
     same_all : (around : Around) (scopes : OpenScopes) (ts : List KeptToken) → length ts ≤ around.end →
         read.all_items below_readers read_head room is_definition (At around scopes ts) ≡ all_of (At around scopes ts)
