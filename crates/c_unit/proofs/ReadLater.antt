@@ -101,27 +101,31 @@ module _ {Token Scope Around A : Type 0} (IsLexeme : Token → Type 0) (around :
     y_behind : length left_x < length left_y → Cut (tokens_of run_x) left_x (tokens_of run_y) left_y → IsLongest Y run_x left_x × AreNoWord Y (tokens_of run_x)
     y_behind h (equal p q) = absurd (let k : length left_x ≡ length left_y = ap length q in omega arith)
     y_behind h (earlier t r p q) = absurd (let k : length left_x ≡ suc (length (r ++ left_y)) = ap length q in let l = length-append r left_y in omega arith)
-    y_behind h (later t r p q) =
-        (λ s us more k. none_longer Y (tokens_of run_y) (tokens_of run_x) left_x t r p (λ m. long_y t (r ++ left_x) m q) (s ∷ more),
-        none_equal Y (tokens_of run_y) (tokens_of run_x) left_x t r p (λ m. long_y t (r ++ left_x) m q))
+    y_behind h (later t r p q) = (
+      λ s us more k. none_longer Y (tokens_of run_y) (tokens_of run_x) left_x t r p (λ m. long_y t (r ++ left_x) m q) (s ∷ more),
+      none_equal Y (tokens_of run_y) (tokens_of run_x) left_x t r p (λ m. long_y t (r ++ left_x) m q),
+    )
 
     x_behind : length left_y ≤ length left_x → Cut (tokens_of run_x) left_x (tokens_of run_y) left_y → IsLongest X run_y left_y × AreNoWord X (tokens_of run_y)
     x_behind h (equal p q) =
         (λ s us more k d w b g x. long_x s us more (q ∙ k) d w b (g ∙ ap (λ z. z ++ s ∷ more) (sym p)) x, λ d w b g x. none_x d w b (g ∙ sym p) x)
-    x_behind h (earlier t r p q) =
-        (λ s us more k. none_longer X (tokens_of run_x) (tokens_of run_y) left_y t r p (λ m. long_x t (r ++ left_y) m q) (s ∷ more),
-        none_equal X (tokens_of run_x) (tokens_of run_y) left_y t r p (λ m. long_x t (r ++ left_y) m q))
+    x_behind h (earlier t r p q) = (
+      λ s us more k. none_longer X (tokens_of run_x) (tokens_of run_y) left_y t r p (λ m. long_x t (r ++ left_y) m q) (s ∷ more),
+      none_equal X (tokens_of run_x) (tokens_of run_y) left_y t r p (λ m. long_x t (r ++ left_y) m q),
+    )
     x_behind h (later t r p q) = absurd (let k : length left_y ≡ suc (length (r ++ left_x)) = ap length q in let l = length-append r left_x in omega arith)
 
     or_x : IsLongest Y run_x left_x × AreNoWord Y (tokens_of run_x) → IsLongest OrFamily run_x left_x × AreNoWord OrFamily (tokens_of run_x)
-    or_x k =
-        (λ t us more h d w b g z. elim z [ inl x ↦ long_x t us more h d w b g x | inr y ↦ k.0 t us more h d w b g y ],
-        λ d w b g z. elim z [ inl x ↦ none_x d w b g x | inr y ↦ k.1 d w b g y ])
+    or_x k = (
+      λ t us more h d w b g z. elim z [ inl x ↦ long_x t us more h d w b g x | inr y ↦ k.0 t us more h d w b g y ],
+      λ d w b g z. elim z [ inl x ↦ none_x d w b g x | inr y ↦ k.1 d w b g y ],
+    )
 
     or_y : IsLongest X run_y left_y × AreNoWord X (tokens_of run_y) → IsLongest OrFamily run_y left_y × AreNoWord OrFamily (tokens_of run_y)
-    or_y k =
-        (λ t us more h d w b g z. elim z [ inl x ↦ k.0 t us more h d w b g x | inr y ↦ long_y t us more h d w b g y ],
-        λ d w b g z. elim z [ inl x ↦ k.1 d w b g x | inr y ↦ none_y d w b g y ])
+    or_y k = (
+      λ t us more h d w b g z. elim z [ inl x ↦ k.0 t us more h d w b g x | inr y ↦ long_y t us more h d w b g y ],
+      λ d w b g z. elim z [ inl x ↦ k.1 d w b g x | inr y ↦ none_y d w b g y ],
+    )
 
     between : Cut (tokens_of run_x) left_x (tokens_of run_y) left_y
     between = cut (tokens_of run_x) left_x (tokens_of run_y) left_y (sym e_x ∙ e_y)
@@ -134,13 +138,13 @@ module _ {Token Scope Around A : Type 0} (IsLexeme : Token → Type 0) (around :
       IsExact {A = A} IsLexeme around OrFamily ts (Err (offends (if b then At left_x sc_x else At left_y sc_y)))
   both_stop ts left_x left_y sc_x sc_y x y true e =
       let k = or_x ts x.run y.run left_x left_y x.split y.split x.longest x.none y.longest y.none
-          (y_behind ts x.run y.run left_x left_y x.split y.split x.longest x.none y.longest y.none (shorter_true left_x left_y e)
-          (between ts x.run y.run left_x left_y x.split y.split x.longest x.none y.longest y.none)) in
+      (y_behind ts x.run y.run left_x left_y x.split y.split x.longest x.none y.longest y.none (shorter_true left_x left_y e)
+      (between ts x.run y.run left_x left_y x.split y.split x.longest x.none y.longest y.none)) in
       refuses x.run x.more left_x x.turns x.value sc_x x.split x.shallow x.lexemes (inl x.is) k.0 k.1
   both_stop ts left_x left_y sc_x sc_y x y false e =
       let k = or_y ts x.run y.run left_x left_y x.split y.split x.longest x.none y.longest y.none
-          (x_behind ts x.run y.run left_x left_y x.split y.split x.longest x.none y.longest y.none (shorter_false left_x left_y e)
-          (between ts x.run y.run left_x left_y x.split y.split x.longest x.none y.longest y.none)) in
+      (x_behind ts x.run y.run left_x left_y x.split y.split x.longest x.none y.longest y.none (shorter_false left_x left_y e)
+      (between ts x.run y.run left_x left_y x.split y.split x.longest x.none y.longest y.none)) in
       refuses y.run y.more left_y y.turns y.value sc_y y.split y.shallow y.lexemes (inr y.is) k.0 k.1
 
   second_at : (ts left_x : List Token) (sc_x : Scope) → Stopped IsLexeme X ts left_x → (o : Outcome Token Scope Around A) → IsExact IsLexeme around Y ts o →

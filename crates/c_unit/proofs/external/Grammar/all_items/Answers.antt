@@ -27,7 +27,7 @@ loop-turn-preserved g c =
     let i = c.loop-turn in
     let taken = c.in_ok-item.field-0 in
     let e = one_turn (λ n. items_on (g.B.Below.readers c.args.self.now.below) (g.B.Heads.heads c.args.self.now.below) c.args.self.now.room (is_definition_at c.args.self.now.text.tokens.now c.args.self.now.text.kept.now) n i.list (input_from i.source))
-        _ i._turn c.loop-turn-test.true i.invariant.all in
+    _ i._turn c.loop-turn-test.true i.invariant.all in
     let ahead : is_ahead terminal_of begins_external (input_from i.source) ≡ true = cc (c.is_at_external.ensures, c.if-not-is_at_external.false) in
     let pushed : c.push.new.self ≡ i.list ++ taken.item ∷ [] = cc (c.in_ok-push.ensures.ok, c.in_ok-item.item-is) in
     let noted : c.push-in-loop-turn.new.self.items ≡ i.definitions.items ++ taken.definition ∷ [] = cc (c.in_ok-push-2.ensures.items, c.in_ok-item.definition-is) in
@@ -49,7 +49,7 @@ pub returns-then-not-is_at_external : goal.returns-then-not-is_at_external
 returns-then-not-is_at_external g c =
     let i = c.loop-turn in
     let e = one_turn (λ n. items_on (g.B.Below.readers c.args.self.now.below) (g.B.Heads.heads c.args.self.now.below) c.args.self.now.room (is_definition_at c.args.self.now.text.tokens.now c.args.self.now.text.kept.now) n i.list (input_from i.source))
-        _ i._turn c.loop-turn-test.true i.invariant.all in
+    _ i._turn c.loop-turn-test.true i.invariant.all in
     let none : is_ahead terminal_of begins_external (input_from i.source) ≡ false = cc (c.is_at_external.ensures, c.if-not-is_at_external.true) in
     no_item (g.B.Below.readers c.args.self.now.below) (g.B.Heads.heads c.args.self.now.below) c.args.self.now.room (is_definition_at c.args.self.now.text.tokens.now c.args.self.now.text.kept.now) (c.left-turn-end.result - (i._turn + 1)) i.list (input_from i.source) e none
 
@@ -57,8 +57,8 @@ pub returns-in_err-item : goal.returns-in_err-item
 returns-in_err-item g c =
     let i = c.loop-turn in
     let e = one_turn (λ n. items_on (g.B.Below.readers c.args.self.now.below) (g.B.Heads.heads c.args.self.now.below) c.args.self.now.room (is_definition_at c.args.self.now.text.tokens.now c.args.self.now.text.kept.now) n i.list (input_from i.source))
-        _ i._turn c.loop-turn-test.true i.invariant.all in
+    _ i._turn c.loop-turn-test.true i.invariant.all in
     let ahead : is_ahead terminal_of begins_external (input_from i.source) ≡ true = cc (c.is_at_external.ensures, c.if-not-is_at_external.false) in
     let k = taken_stops (g.B.Below.readers c.args.self.now.below) (g.B.Heads.heads c.args.self.now.below) c.args.self.now.room (is_definition_at c.args.self.now.text.tokens.now c.args.self.now.text.kept.now) (c.left-turn-end.result - (i._turn + 1)) i.list (input_from i.source) e
-        c.external.result _ ahead c.external.ensures.reads c.in_err-item.was in
+    c.external.result _ ahead c.external.ensures.reads c.in_err-item.was in
     first_of (search (rules, k), grind (arith, common_steps, k))

@@ -8,7 +8,7 @@ pub returns-in_err-_item : goal.returns-in_err-_item
 returns-in_err-_item g c =
     let i = c.loop-definition in
     let k = replay_stops (g.B.Below.readers c.args.self.now.below) (g.B.Heads.heads c.args.self.now.below) c.args.self.now.room c.args.definitions.now i.definition-index (input_from i.source) i.invariant
-        _ c.picked.result (input_from c.picked.new.source) _ c.loop-definition-test.true c.picked.ensures c.in_err-_item.was in
+    _ c.picked.result (input_from c.picked.new.source) _ c.loop-definition-test.true c.picked.ensures c.in_err-_item.was in
     first_of (search (rules, k), grind (arith, common_steps, k))
 
 pub loop-definition-preserved : goal.loop-definition-preserved
