@@ -1,0 +1,10 @@
+pub mod Later
+pub mod Beginnings
+pub mod Texts
+pub mod UnitSets
+pub mod UnitRules
+pub mod UnitReaders
+pub mod Replays
+pub mod Gives
+pub mod Tries
+pub mod ExactFiles
