@@ -24,7 +24,8 @@ abbrev pub inside : ℕ → ℕ → Seen
 inside depth number =
     if (number == MARK_LEFT_PAREN) || ((number == MARK_LEFT_BRACKET) || (number == MARK_LEFT_BRACE))
     then Open (depth + 1) false
-    else (if (number == MARK_RIGHT_PAREN) || (number == MARK_RIGHT_BRACKET) then Open (depth - 1) true
+    else (if (number == MARK_RIGHT_PAREN) || (number == MARK_RIGHT_BRACKET)
+    then Open (depth - 1) true
     else (if number == MARK_RIGHT_BRACE then Open (depth - 1) false else Open depth false))
 
 -- What it tells outside of all brackets, behind `)` or `]` or not.

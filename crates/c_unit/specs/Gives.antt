@@ -15,7 +15,8 @@ use Rattle.c_unit.specs.declared.forms.External.{External}
 use Rattle.c_unit.specs.declared.forms.Items.{Items}
 
 -- The source is the one behind it.
-abbrev pub GoesTo : Outcome KeptToken OpenScopes Around (Prim.Unit {0}) → Result Source Stop → Type 0
+abbrev pub GoesTo : Outcome KeptToken OpenScopes Around (Prim.Unit {0}) → Result Source Stop →
+    Type 0
 GoesTo outcome (Ok source) = outcome ≡ Ok (tt, input_from source)
 GoesTo outcome (Err stop) = Halts outcome stop
 

@@ -1,7 +1,7 @@
 //! External declarations (C11 6.9).
 //!
-//! A function's own parameters are in scope in the rest of its declarator and those of a declaration
-//! are not, so that the same tokens have two readings up to `{` or another mark. The one is tried
+//! A function's own parameters are in scope in the rest of its declarator and those of a
+//! declaration are not, so that the same tokens have two readings up to `{` or another mark. The one is tried
 //! that the marks ahead tell. Where it stops, the other is tried too, on a source that is read anew
 //! up to this place, and the later stop counts.
 

@@ -68,8 +68,8 @@ impl<'t, B: Below + Heads + Copy> Grammar<'t, B> {
     }
 }
 
-/// Reads a file (C11 6.9), of which are given the bytes, the tokens, and the positions of those that
-/// the parser keeps.
+/// Reads a file (C11 6.9), of which are given the bytes, the tokens, and the positions of those
+/// that the parser keeps.
 ///
 /// A refusal names the first token with which the file begins no well formed one, or the end mark,
 /// or the first token on a level above 256, where that comes first.

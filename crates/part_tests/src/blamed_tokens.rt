@@ -1,5 +1,6 @@
-//! Where parts end, and which token is blamed: the places where a descent that reads as it goes would
-//! blame another one, behind `typedef int T;`. An `Err` has the number of the first token that offends.
+//! Where parts end, and which token is blamed: the places where a descent that reads as it goes
+//! would blame another one, behind `typedef int T;`. An `Err` has the number of the first token
+//! that offends.
 
 use crate::read_parts::{As, read_behind};
 use c_reading::Stop;
@@ -88,8 +89,8 @@ fn type_names_have_no_names(rt: HostRuntime) -> Result<(), Fail> {
 }
 
 // By places: constant expressions and assertions, arrays, qualifiers, typedef names, groups and
-// parameters, bit-fields, bodies, lists that are not empty, storage classes, initialisers, and where a
-// name begins to count.
+// parameters, bit-fields, bodies, lists that are not empty, storage classes, initialisers, and where
+// a name begins to count.
 #[test]
 fn declarations_are_read_to_their_semicolon(rt: HostRuntime) -> Result<(), Fail> {
     for (text, want) in [

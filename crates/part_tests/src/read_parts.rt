@@ -12,7 +12,7 @@ use std::test::Fail;
 
 /// What a text is read as.
 #[derive(Clone, Copy)]
-pub enum As {
+pub(crate) enum As {
     Expr,
     TypeName,
     Declaration,
@@ -20,9 +20,9 @@ pub enum As {
     Declarations,
 }
 
-/// How many tokens of a text are read as one part, or why it is not read. The names that it declares
-/// stay in the scopes, unless it is not read.
-pub fn read_as(
+/// How many tokens of a text are read as one part, or why it is not read. The names that it
+/// declares stay in the scopes, unless it is not read.
+pub(crate) fn read_as(
     alloc: Global,
     part: As,
     bytes: &[u8],
@@ -57,7 +57,7 @@ pub fn read_as(
 }
 
 /// What is read of a text behind these declarations.
-pub fn read_behind(
+pub(crate) fn read_behind(
     alloc: Global,
     declarations: &[u8],
     part: As,
@@ -71,7 +71,7 @@ pub fn read_behind(
 }
 
 /// The first piece so many times, the middle, and the last piece as often.
-pub fn nested(
+pub(crate) fn nested(
     alloc: Global,
     opening: &[u8],
     count: usize,
@@ -90,7 +90,7 @@ pub fn nested(
 }
 
 /// The one text and then the other.
-pub fn joined(alloc: Global, first: &[u8], second: &[u8]) -> Result<Vec<u8>, Fail> {
+pub(crate) fn joined(alloc: Global, first: &[u8], second: &[u8]) -> Result<Vec<u8>, Fail> {
     let mut text = Vec::new(alloc);
     text.extend_from_slice(first)?;
     text.extend_from_slice(second)?;
