@@ -1,9 +1,9 @@
 //! External declarations (C11 6.9).
 //!
 //! A function's own parameters are in scope in the rest of its declarator and those of a
-//! declaration are not, so that the same tokens have two readings up to `{` or another mark. The one is tried
-//! that the marks ahead tell. Where it stops, the other is tried too, on a source that is read anew
-//! up to this place, and the later stop counts.
+//! declaration are not, so that the same tokens have two readings up to `{` or another mark.
+//! The one is tried that the marks ahead tell. Where it stops, the other is tried too, on a
+//! source that is read anew up to this place, and the later stop counts.
 
 ghost use Rattle.std.specs.Prelude.{◌≡◌, IfOk, Ok};
 ghost use Rattle.reading.specs.Readers.{and_then};

@@ -89,8 +89,8 @@ fn type_names_have_no_names(rt: HostRuntime) -> Result<(), Fail> {
 }
 
 // By places: constant expressions and assertions, arrays, qualifiers, typedef names, groups and
-// parameters, bit-fields, bodies, lists that are not empty, storage classes, initialisers, and where
-// a name begins to count.
+// parameters, bit-fields, bodies, lists that are not empty, storage classes, initialisers, and
+// where a name begins to count.
 #[test]
 fn declarations_are_read_to_their_semicolon(rt: HostRuntime) -> Result<(), Fail> {
     for (text, want) in [
