@@ -1,0 +1,4 @@
+pub mod HeadForms
+pub mod HeadRules
+pub mod HeadReaders
+pub mod Gives
