@@ -1,6 +1,6 @@
 -- The graph of the sources (ours), as the passes build it one after another, under the program's
 -- caps. This version has one pass, which adds the syntax layer.
-use Rattle.std.specs.Prelude.{ℕ, List, [], ◌∷◌, length, slice_get, Result, Ok, Err}
+use Rattle.std.specs.Prelude.{ℕ, List, [], length, slice_get, Result}
 use Rattle.std.specs.Option.{unwrap_or}
 use Rattle.cpg_schema.specs.declared.caps.Caps.{Caps}
 use Rattle.cpg_schema.specs.Graph.{PlainGraph, plain_graph}
@@ -22,7 +22,3 @@ forest_delta forests part = planted (unwrap_or (slice_get forests part) none)
 abbrev pub built : List Forest → Result PlainGraph Cap
 built forests =
     seq graph_caps (plain_graph [] []) (forest_delta forests) (length forests)
-
--- The graph of one source.
-abbrev pub built_alone : Forest → Result PlainGraph Cap
-built_alone forest = built (forest ∷ [])

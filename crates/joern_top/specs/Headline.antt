@@ -2,18 +2,21 @@
 -- give for its words and the held files alone. The rules' status is said where the files tell what
 -- they hold, and bytes where the sink tells what it took.
 use Rattle.std.specs.Prelude.{ℕ, ◌≡◌, ◌≤◌, ◌⊎◌, List, String, map, string_bytes, take, length, Some}
-use Rattle.std.specs.Prelude.{IfSome, IsSome, IsOk, All, Contains, slice_get}
+use Rattle.std.specs.Prelude.{IfSome, IsSome, IsOk, Contains, slice_get}
+use Rattle.std.specs.List.{AllZip}
 use Rattle.joern_io.specs.Faults.{Rose}
 use Rattle.joern_io.specs.Held.{Held, file_of}
 use Rattle.joern_io.specs.Files.{FilesState, RoseOrLacks}
 use Rattle.joern_io.specs.Sinks.{SinkState, Takes, TakesPrefix}
-use Rattle.c_lexer.specs.declared.source_text.TheConstants.{MAX_FILE_BYTES}
+use Rattle.graph_forest.specs.Forest.{Forest}
+use Rattle.ast_layer.specs.declared.pass.TheConstants.{MAX_SOURCES}
 use Rattle.joern_top.specs.declared.status.Status.{Status}
 use Rattle.joern_top.specs.declared.status.Status.TheVariants as status
 use Rattle.joern_top.specs.Status.{IsAnswer}
 use Rattle.joern_top.specs.Words.{command, files_of}
-use Rattle.joern_top.specs.Source.{Parts, IsReadAs, IsAccepted, forest_of}
-use Rattle.joern_top.specs.Graph.{built_alone}
+use Rattle.joern_top.specs.Inputs.{AreReadable}
+use Rattle.joern_top.specs.Source.{IsAccepted, IsForestOf}
+use Rattle.joern_top.specs.Graph.{built}
 use Rattle.joern_top.specs.Messages.{read_fault_line}
 use Rattle.joern_top.specs.Run.{Outcome, IsOutcome}
 
@@ -72,21 +75,17 @@ Completes run = IfSome run.files_before.held (λ held. MeetsNoFault run →
     ((o : Outcome) × IsOutcome run.words held o × (run.status ≡ o.status))
     ⊎ (run.status ≡ status.NoMemory))
 
--- A file that is held and within the limit.
-abbrev pub IsReadable : Held → List ℕ → Type 0
-IsReadable held name =
-    (bytes : List ℕ) × (file_of held name ≡ Some bytes) × (length bytes ≤ MAX_FILE_BYTES)
-
--- The words give a command, each of its files is held and within the limit, each source is
--- accepted, and the graph passes no cap.
+-- The words give a command, which names no more files than the limit; its files are held, each
+-- within the limit and together within that of all files; each source is accepted, and the graph of
+-- the sources passes no cap.
 pub record CanAnswer (words : List (List ℕ)) (held : Held) : Type 0 where
   pub commanded : IsSome (command words)
-  pub readable : All (IsReadable held) (files_of (command words))
+  pub few : length (files_of (command words)) ≤ MAX_SOURCES
+  pub readable : AreReadable held (files_of (command words))
   pub accepted : (name bytes : List ℕ) → Contains (files_of (command words)) name →
       file_of held name ≡ Some bytes → IsAccepted bytes
-  pub within_caps : (name bytes : List ℕ) (parts : Parts) →
-      Contains (files_of (command words)) name → file_of held name ≡ Some bytes →
-      IsReadAs name bytes parts → IsOk (built_alone (forest_of name bytes parts))
+  pub within_caps : (forests : List Forest) →
+      AllZip (IsForestOf held) (files_of (command words)) forests → IsOk (built forests)
 
 -- What can be answered is: where no count of faults rose the status is Ok and exactly the rules'
 -- bytes were written, or memory is wanting and nothing was written.
@@ -99,13 +98,15 @@ AnswersWhatItCan run = IfSome run.files_before.held (λ held. CanAnswer run.word
 -- ---- Faults
 
 -- The number is that of a file in the order of reading, which a device failed to read or which is
--- not held. Those before it are held and within the limit.
+-- not held. No more files than the limit are named, and those before it are held, each within the
+-- limit and together within that of all files.
 pub record StopsReadingAt (run : Run) (number : ℕ) : Type 0 where
   pub name : List ℕ
   pub named : slice_get (names run) number ≡ Some name
   pub cause : RoseOrLacks run.files_before run.files_after name
+  pub few : length (names run) ≤ MAX_SOURCES
   pub earlier : IfSome run.files_before.held (λ held.
-      All (IsReadable held) (take number (names run)))
+      AreReadable held (take number (names run)))
 
 -- A read fault has its cause.
 abbrev pub ReadFaultHasCause : Run → Type 0

@@ -1,6 +1,7 @@
 pub mod Status
 pub mod Words
 pub mod Commands
+pub mod Inputs
 pub mod Source
 pub mod Graph
 pub mod Refusals

@@ -16,6 +16,8 @@ reason_text reason.Unbuilt = codes "unbuilt"
 -- How what there is too much of is spelled.
 abbrev pub what_text : What → List ℕ
 what_text what.FileBytes = codes "file-bytes"
+what_text what.InputBytes = codes "input-bytes"
+what_text what.Files = codes "files"
 what_text what.Nodes = codes "nodes"
 what_text what.Edges = codes "edges"
 

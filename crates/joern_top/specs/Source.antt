@@ -1,7 +1,8 @@
 -- How a source is read: its tokens, those that the parser keeps, the presumed places of all, and
 -- the tree of the kept ones.
-use Rattle.std.specs.Prelude.{ℕ, ◌≡◌, List, Option}
+use Rattle.std.specs.Prelude.{ℕ, ◌≡◌, List, Option, Some}
 use Rattle.std.specs.List.{AllZip}
+use Rattle.joern_io.specs.Held.{Held, file_of}
 use Rattle.c_lexer.specs.declared.token.Token.{Token}
 use Rattle.c_lexer.specs.Reading.{AreTokensOf}
 use Rattle.line_marks.specs.Kept.{AreKept, items_at}
@@ -54,3 +55,16 @@ pub record IsAccepted (bytes : List ℕ) : Type 0 where
   pub unit : Unit
   pub stripped : IsStrippedTo bytes tokens kept
   pub parsed : IsFirstUnit bytes (items_at tokens kept) unit
+
+-- The file of this name is held, and it is accepted.
+abbrev pub IsAcceptedFile : Held → List ℕ → Type 0
+IsAcceptedFile held name =
+    (bytes : List ℕ) × (file_of held name ≡ Some bytes) × IsAccepted bytes
+
+-- The forest is that of the file of this name, as it is read.
+pub record IsForestOf (held : Held) (name : List ℕ) (forest : Forest) : Type 0 where
+  pub bytes : List ℕ
+  pub parts : Parts
+  pub held_so : file_of held name ≡ Some bytes
+  pub read : IsReadAs name bytes parts
+  pub is : forest ≡ forest_of name bytes parts

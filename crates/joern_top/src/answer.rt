@@ -1,36 +1,42 @@
 //! What is answered to the words, as it is decided before anything is written.
 
-ghost use Rattle.std.specs.Prelude.{◌≡◌, ◌≤◌, Some, IfSome, IsNone, map, string_bytes};
-ghost use Rattle.std.specs.Prelude.{vec_len};
-ghost use Rattle.joern_io.specs.Held.{file_of};
-ghost use Rattle.joern_io.specs.Files.{KeepsFiles, RoseOrLacks};
-ghost use Rattle.ast_layer.specs.Parts.{source_forest};
+ghost use Rattle.std.specs.Prelude.{ℕ, List, ◌≡◌, ◌≤◌, ◌⊎◌, All, Some, IfSome, IsNone};
+ghost use Rattle.std.specs.Prelude.{map, string_bytes, vec_len};
+ghost use Rattle.joern_io.specs.Held.{Held};
+ghost use Rattle.joern_io.specs.Files.{KeepsFiles};
+ghost use Rattle.ast_layer.specs.declared.pass.TheConstants.{MAX_SOURCES};
+ghost use Rattle.c_lexer.specs.declared.source_text.TheConstants.{MAX_FILE_BYTES};
 ghost use Rattle.joern_top.specs.Answers.{outcome_of, IsDecided, IsOrdered, IfReadFault};
-ghost use Rattle.joern_top.specs.Graph.{built_alone};
-ghost use Rattle.joern_top.specs.Run.{IsOutcome, IsFileOutcome, built_outcome};
-ghost use Rattle.joern_top.specs.Words.{Dump, command};
+ghost use Rattle.joern_top.specs.Graph.{built};
+ghost use Rattle.joern_top.specs.Reading.{AreInputsOf, FailsAt, forests_of, size};
+ghost use Rattle.joern_top.specs.Run.{IsOutcome, IsNamesOutcome, IsSourcesOutcome, built_outcome};
+ghost use Rattle.joern_top.specs.Words.{command, files_of};
 
 use crate::graph::{BuiltGraph, FIRST_PASS, build_graph};
+use crate::inputs::{Input, InputStop, read_inputs};
 use crate::refusal::Refusal;
-use crate::source::{SourceStop, read_source};
+use crate::sources::{SourcesStop, read_sources};
 use crate::status::What;
 use crate::words::{Command, read_words};
-use ast_layer::Source;
-use c_lexer::MAX_FILE_BYTES;
+use ast_layer::{MAX_SOURCES, Source};
 use graph_store::ApplyStop;
-use joern_io::{Files, ReadStop, read_all};
-use std::alloc::Global;
+use joern_io::Files;
+use std::alloc::{AllocError, Global};
 
 /// What is answered, before it is written.
 #[derive(Drop)]
 pub(crate) enum Answer<'a> {
     Usage,
-    /// The file of this name could not be read.
-    ReadFault { name: &'a str },
+    /// The file with this number, of this name, could not be read.
+    ReadFault { number: u32, name: &'a str },
     /// There is too much of something, at this number.
     Limit { what: What, at: u32 },
-    /// The source of this name is refused.
-    Refused { name: &'a str, refusal: Refusal },
+    /// The source with this number, of this name, is refused.
+    Refused {
+        number: u32,
+        name: &'a str,
+        refusal: Refusal,
+    },
     /// The lines of a graph.
     Dump { built: BuiltGraph },
     NoMemory,
@@ -41,66 +47,80 @@ pub(crate) fn decide<'a, F: Files>(alloc: Global, words: &'a [String], files: &m
     ensures keeps { KeepsFiles (F.state files.old) (F.state files.new) }
     ensures ordered { IsOrdered result }
     ensures no_command { IsNone (command (map string_bytes words.now)) →
-        (result ≡ Answer.Usage) × (files.new ≡ files.old) }
+        ((result ≡ Answer.Usage) ⊎ (result ≡ Answer.NoMemory)) × (files.new ≡ files.old) }
     ensures usage { result ≡ Answer.Usage → IsNone (command (map string_bytes words.now)) }
     ensures decided { IfSome (F.state files.old).held (λ held. IsDecided result →
         IsOutcome (map string_bytes words.now) held (outcome_of result)) }
-    ensures read_fault { IfReadFault result (λ name.
-        (command (map string_bytes words.now) ≡ Some (Dump name))
-        × RoseOrLacks (F.state files.old) (F.state files.new) name) }
+    ensures read_fault { IfReadFault result (FailsAt (F.state files.old) (F.state files.new)
+        (files_of (command (map string_bytes words.now)))) }
 {
-    match read_words(words) {
-        None => Answer::Usage,
-        Some(Command::Dump { name }) => dump_answer(alloc, name, files),
+    match read_words(alloc, words) {
+        Ok(Some(Command::Dump { names })) => dump_answer(alloc, names, files),
+        Ok(None) => Answer::Usage,
+        Err(AllocError) => Answer::NoMemory,
     }
 }
 
-/// The answer to a dump of the file of this name.
-fn dump_answer<'a, F: Files>(alloc: Global, name: &'a str, files: &mut F) -> Answer<'a>
+/// The answer to a dump of the files of these names.
+fn dump_answer<'a, F: Files>(alloc: Global, names: &'a [String], files: &mut F) -> Answer<'a>
     ensures keeps { KeepsFiles (F.state files.old) (F.state files.new) }
     ensures ordered { IsOrdered result }
     ensures no_usage { ¬ (result ≡ Answer.Usage) }
     ensures decided { IfSome (F.state files.old).held (λ held. IsDecided result →
-        IsFileOutcome name.now (file_of held name.now) (outcome_of result)) }
-    ensures read_fault { IfReadFault result (λ file.
-        (file ≡ name.now) × RoseOrLacks (F.state files.old) (F.state files.new) file) }
+        IsNamesOutcome (map string_bytes names.now) held (outcome_of result)) }
+    ensures read_fault { IfReadFault result (FailsAt (F.state files.old) (F.state files.new)
+        (map string_bytes names.now)) }
 {
-    match read_all(alloc, files, name, MAX_FILE_BYTES as u32) {
-        Ok(bytes) => source_answer(alloc, name, bytes),
-        Err(ReadStop::Failed) => Answer::ReadFault { name },
-        Err(ReadStop::TooLarge) => Answer::Limit {
-            what: What::FileBytes,
-            at: 0,
+    if names.len() > MAX_SOURCES {
+        return Answer::Limit {
+            what: What::Files,
+            at: names.len().min(u32::MAX as usize) as u32,
+        };
+    }
+    match read_inputs(alloc, names, files) {
+        Ok(inputs) => inputs_answer(alloc, inputs),
+        Err(InputStop::Failed { number, name }) => Answer::ReadFault { number, name },
+        Err(InputStop::TooLarge { what, number }) => Answer::Limit { what, at: number },
+        Err(InputStop::Memory) => Answer::NoMemory,
+    }
+}
+
+/// The answer to a dump of files that were read.
+fn inputs_answer<'a>(alloc: Global, inputs: Vec<Input<'a>>) -> Answer<'a>
+    requires few { vec_len inputs ≤ MAX_SOURCES }
+    requires within { All (λ input. size input ≤ MAX_FILE_BYTES) inputs.items }
+    ensures decided { (held : Held) (names : List (List ℕ)) →
+        AreInputsOf (Some held) names inputs.items → IsDecided result →
+        IsSourcesOutcome held names (outcome_of result) }
+    ensures ordered { IsOrdered result }
+    ensures no_usage { ¬ (result ≡ Answer.Usage) }
+    ensures no_read_fault { IfReadFault result (λ _ _. ⊥) }
+{
+    match read_sources(alloc, inputs) {
+        Ok(sources) => graph_answer(alloc, sources),
+        Err(SourcesStop::Refused {
+            number,
+            name,
+            refusal,
+        }) => Answer::Refused {
+            number,
+            name,
+            refusal,
         },
-        Err(ReadStop::Memory) => Answer::NoMemory,
+        Err(SourcesStop::Memory) => Answer::NoMemory,
     }
 }
 
-/// The answer to a dump of a file with these bytes.
-fn source_answer<'a>(alloc: Global, name: &'a str, bytes: Vec<u8>) -> Answer<'a>
-    requires within { vec_len bytes ≤ MAX_FILE_BYTES }
+/// The answer to a dump of sources that were read.
+fn graph_answer<'a>(alloc: Global, sources: Vec<Source>) -> Answer<'a>
+    requires few { vec_len sources ≤ MAX_SOURCES }
     ensures decided { IsDecided result →
-        IsFileOutcome name.now (Some bytes.items) (outcome_of result) }
+        outcome_of result ≡ built_outcome (built (forests_of sources.items)) }
     ensures ordered { IsOrdered result }
     ensures no_usage { ¬ (result ≡ Answer.Usage) }
-    ensures no_read_fault { IfReadFault result (λ _. ⊥) }
+    ensures no_read_fault { IfReadFault result (λ _ _. ⊥) }
 {
-    match read_source(alloc, name, bytes) {
-        Ok(source) => graph_answer(alloc, source),
-        Err(SourceStop::Refused(refusal)) => Answer::Refused { name, refusal },
-        Err(SourceStop::Memory) => Answer::NoMemory,
-    }
-}
-
-/// The answer to a dump of a source that was read.
-fn graph_answer<'a>(alloc: Global, source: Source) -> Answer<'a>
-    ensures decided { IsDecided result →
-        outcome_of result ≡ built_outcome (built_alone (source_forest (Some source))) }
-    ensures ordered { IsOrdered result }
-    ensures no_usage { ¬ (result ≡ Answer.Usage) }
-    ensures no_read_fault { IfReadFault result (λ _. ⊥) }
-{
-    match build_graph(alloc, source) {
+    match build_graph(alloc, sources) {
         Ok(built) => Answer::Dump { built },
         Err(ApplyStop::TooManyNodes) => Answer::Limit {
             what: What::Nodes,

@@ -11,18 +11,25 @@ use std::random::RandomSource;
 /// How many places there are for spellings that were added lately.
 const PLACES: usize = 4096;
 
-/// Where a spelling stands in a text.
+/// Where a spelling stands in the text of a source.
 #[derive(Clone, Copy)]
 struct Span {
+    source: u32,
     start: u32,
     end: u32,
 }
 
 impl Span {
     /// The bytes that stand there.
-    fn of(self, text: &[u8]) -> &[u8] {
-        text.get(self.start as usize..self.end as usize)
-            .unwrap_or(&[])
+    fn of(self, sources: &[Source]) -> &[u8] {
+        match sources.get(self.source as usize) {
+            Some(source) => source
+                .bytes
+                .items()
+                .get(self.start as usize..self.end as usize)
+                .unwrap_or(&[]),
+            None => &[],
+        }
     }
 }
 
@@ -30,18 +37,23 @@ impl Span {
 /// and some of the others: it is not added where it was the last of those that share its place.
 #[derive(Drop)]
 struct Names<'a> {
-    text: &'a [u8],
+    sources: &'a [Source],
     digest: Sha512,
     lately: Vec<Span>,
 }
 
 impl<'a> Names<'a> {
     /// No names yet.
-    fn of(alloc: Global, text: &'a [u8]) -> Result<Names<'a>, AllocError> {
+    fn of(alloc: Global, sources: &'a [Source]) -> Result<Names<'a>, AllocError> {
+        let nowhere = Span {
+            source: 0,
+            start: 0,
+            end: 0,
+        };
         Ok(Names {
-            text,
+            sources,
             digest: Sha512::new(),
-            lately: Vec::from_elem(alloc, Span { start: 0, end: 0 }, PLACES)?,
+            lately: Vec::from_elem(alloc, nowhere, PLACES)?,
         })
     }
 
@@ -51,19 +63,38 @@ impl<'a> Names<'a> {
         self.digest.update(b"\0");
     }
 
+    /// Adds the names of a source, which is at this position among the sources: those of files,
+    /// and the spellings of its kept tokens that are neither keywords nor marks.
+    fn add_source(&mut self, source: &Source, position: u32) {
+        let tokens = source.tokens.items();
+        let kept = source.kept.items();
+        // Without kept tokens there are no nodes that name the files of markers.
+        if !kept.is_empty() {
+            for name in source.places.files.items() {
+                self.add(name.items());
+            }
+        }
+        for number in kept {
+            if let Some(token) = tokens.get(*number as usize) {
+                self.add_token(token, position);
+            }
+        }
+    }
+
     /// Adds the spelling of a token, unless it is a keyword or a mark, which nobody chooses.
-    fn add_token(&mut self, token: &Token) {
+    fn add_token(&mut self, token: &Token, source: u32) {
         if matches!(token.kind, Kind::Key(_) | Kind::Mark(_)) {
             return;
         }
         let span = Span {
+            source,
             start: token.start,
             end: token.end,
         };
-        let spelling = span.of(self.text);
+        let spelling = span.of(self.sources);
         let place = place_of(spelling);
         if let Some(last) = self.lately.get_mut(place) {
-            let is_new = last.of(self.text) != spelling;
+            let is_new = last.of(self.sources) != spelling;
             // Where it stands now is nearer to where it is looked for next.
             *last = span;
             if is_new {
@@ -80,29 +111,20 @@ fn place_of(spelling: &[u8]) -> usize {
     hasher.finish() as usize % PLACES
 }
 
-/// A digest of all names that a source can give, from which a key is taken.
+/// A digest of all names that sources can give, from which a key is taken.
 #[derive(Drop)]
 struct NameDigest {
     bytes: [u8; 64],
 }
 
 impl NameDigest {
-    /// The digest of the names of files and of the spellings of the kept tokens that are neither
-    /// keywords nor marks.
-    fn of(alloc: Global, source: &Source) -> Result<NameDigest, AllocError> {
-        let mut names = Names::of(alloc, source.bytes.items())?;
-        let tokens = source.tokens.items();
-        let kept = source.kept.items();
-        // Without kept tokens there are no nodes that name the files of markers.
-        if !kept.is_empty() {
-            for name in source.places.files.items() {
-                names.add(name.items());
-            }
-        }
-        for position in kept {
-            if let Some(token) = tokens.get(*position as usize) {
-                names.add_token(token);
-            }
+    /// The digest of the names of the sources.
+    fn of(alloc: Global, sources: &[Source]) -> Result<NameDigest, AllocError> {
+        let mut names = Names::of(alloc, sources)?;
+        let mut position = 0u32;
+        for source in sources {
+            names.add_source(source, position);
+            position = position.saturating_add(1);
         }
         let Names { digest, .. } = names;
         Ok(NameDigest {
@@ -120,10 +142,10 @@ impl RandomSource for NameDigest {
     }
 }
 
-/// The hashes of names, under a key that is taken from the digest of the source's names.
+/// The hashes of names, under a key that is taken from the digest of the sources' names.
 ///
-/// Whoever writes the source chooses the names, but each choice gives another key, so that names
-/// that collide can't be made up beforehand. The same source gives the same run.
-pub(crate) fn name_hashes(alloc: Global, source: &Source) -> Result<RandomState, AllocError> {
-    RandomState::new(&NameDigest::of(alloc, source)?).map_err(|_| AllocError)
+/// Whoever writes the sources chooses the names, but each choice gives another key, so that names
+/// that collide can't be made up beforehand. The same sources give the same run.
+pub(crate) fn name_hashes(alloc: Global, sources: &[Source]) -> Result<RandomState, AllocError> {
+    RandomState::new(&NameDigest::of(alloc, sources)?).map_err(|_| AllocError)
 }

@@ -5,9 +5,11 @@
 mod answer;
 mod graph;
 mod hashes;
+mod inputs;
 pub mod laws;
 mod refusal;
 mod source;
+mod sources;
 mod status;
 mod top;
 mod words;

@@ -41,6 +41,10 @@ pub enum Reason {
 pub enum What {
     /// The bytes of one file. `at` counts the files in the order of reading, from 0.
     FileBytes,
+    /// The bytes of all files. `at` is the number of the file with the first byte too many.
+    InputBytes,
+    /// The files. `at` says how many are named, or 4294967295 where there are more.
+    Files,
     /// The nodes of the graph. `at` is the number of the pass that would add them, from 1.
     Nodes,
     /// The edges of the graph, likewise.
@@ -85,6 +89,8 @@ impl What {
     {
         match self {
             What::FileBytes => "file-bytes",
+            What::InputBytes => "input-bytes",
+            What::Files => "files",
             What::Nodes => "nodes",
             What::Edges => "edges",
         }

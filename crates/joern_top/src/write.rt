@@ -21,9 +21,13 @@ pub(crate) fn write_answer<S: Sink>(answer: &Answer<'_>, out: &mut S) -> Status
 {
     match answer {
         Answer::Usage => refuse(Status::Usage, &[LinePart::Verbatim("usage")], out),
-        Answer::ReadFault { name } => refuse_file(name, out),
+        Answer::ReadFault { number, name } => refuse_file(*number, name, out),
         Answer::Limit { what, at } => refuse_amount(*what, *at, out),
-        Answer::Refused { name, refusal } => refuse_source(name, refusal, out),
+        Answer::Refused {
+            number,
+            name,
+            refusal,
+        } => refuse_source(*number, name, refusal, out),
         Answer::Dump { built } => write_dump(built, out),
         Answer::NoMemory => Status::NoMemory,
     }
@@ -41,11 +45,12 @@ fn write_dump<S: Sink>(built: &BuiltGraph, out: &mut S) -> Status
     }
 }
 
-/// Prints that the file of this name could not be read.
-fn refuse_file<S: Sink>(name: &str, out: &mut S) -> Status
-    ensures { Writes (read_fault_outcome name.now) (S.state out.old) (S.state out.new) result }
+/// Prints that the file with this number, of this name, could not be read.
+fn refuse_file<S: Sink>(number: u32, name: &str, out: &mut S) -> Status
+    ensures { Writes (read_fault_outcome number name.now)
+        (S.state out.old) (S.state out.new) result }
 {
-    let status = Status::ReadFault { name: 0 };
+    let status = Status::ReadFault { name: number };
     refuse(
         status,
         &[
@@ -72,13 +77,13 @@ fn refuse_amount<S: Sink>(what: What, at: u32, out: &mut S) -> Status
     )
 }
 
-/// Prints that the source of this name is refused, where and why.
-fn refuse_source<S: Sink>(name: &str, refusal: &Refusal, out: &mut S) -> Status
-    ensures { Writes (refusal_outcome name.now refusal.now)
+/// Prints that the source with this number, of this name, is refused, where and why.
+fn refuse_source<S: Sink>(number: u32, name: &str, refusal: &Refusal, out: &mut S) -> Status
+    ensures { Writes (refusal_outcome number name.now refusal.now)
         (S.state out.old) (S.state out.new) result }
 {
     let status = Status::SourceRefused {
-        file: 0,
+        file: number,
         at: refusal.at,
         reason: refusal.reason,
     };
