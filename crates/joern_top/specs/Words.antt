@@ -23,21 +23,16 @@ abbrev pub is_file_name : List ℕ → Bool
 is_file_name [] = false
 is_file_name (first ∷ rest) = not (first == 45)
 
--- The words are one or more different file names.
-abbrev pub are_file_names : List (List ℕ) → Bool
-are_file_names [] = false
-are_file_names (name ∷ names) =
-    list_all is_file_name (name ∷ names) && are_different (name ∷ names)
-
--- The words are those of a dump.
+-- The words are those of a dump of files with different names.
 abbrev pub is_dump : List ℕ → List ℕ → List (List ℕ) → Bool
 is_dump option value names =
-    is_word option (codes "--do") && is_word value (codes "dump") && are_file_names names
+    is_word option (codes "--do") && is_word value (codes "dump")
+    && list_all is_file_name names && are_different names
 
--- The command that the words give, if they give one.
+-- The command that the words give, if they give one. It names one file at least.
 abbrev pub command : List (List ℕ) → Option Command
-command (option ∷ value ∷ names) =
-    if is_dump option value names then Some (Dump names) else None
+command (option ∷ value ∷ name ∷ names) =
+    if is_dump option value (name ∷ names) then Some (Dump (name ∷ names)) else None
 command _ = None
 
 -- The files that a command reads, in the order of reading.

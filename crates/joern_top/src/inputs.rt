@@ -1,8 +1,9 @@
 //! The files that a command names, read one after another within the limits of bytes.
 
-ghost use Rattle.std.specs.Prelude.{◌≤◌, IfOk, IfErr, length, map, string_bytes};
+ghost use Rattle.std.specs.Prelude.{ℕ, ◌-◌, ◌<◌, ◌≤◌, IfOk, IfErr, length, map, min, string_bytes};
 ghost use Rattle.joern_io.specs.Files.{KeepsFiles};
 ghost use Rattle.ast_layer.specs.declared.pass.TheConstants.{MAX_SOURCES};
+ghost use Rattle.joern_top.specs.Inputs.{PassesLimit};
 ghost use Rattle.joern_top.specs.Reading.{AreInputsOf, IsInputOf, IsInputStop, IsStopAt, size};
 
 use crate::status::What;
@@ -83,14 +84,23 @@ fn read_input<'a, F: Files>(
             bytes: Bytes::of(bytes),
         }),
         Err(ReadStop::Failed) => Err(InputStop::Failed { number, name }),
-        Err(ReadStop::TooLarge) => {
-            let what = if room < MAX_FILE_BYTES {
-                What::InputBytes
-            } else {
-                What::FileBytes
-            };
-            Err(InputStop::TooLarge { what, number })
-        }
+        Err(ReadStop::TooLarge) => Err(InputStop::TooLarge {
+            what: limit_met(room),
+            number,
+        }),
         Err(ReadStop::Memory) => Err(InputStop::Memory),
+    }
+}
+
+/// The limit that a file meets first, where so many bytes are left of that of all files.
+fn limit_met(room: usize) -> What
+    requires { room ≤ MAX_INPUT_BYTES }
+    ensures { (size : ℕ) → min room MAX_FILE_BYTES < size →
+        PassesLimit (MAX_INPUT_BYTES - room) size result }
+{
+    if room < MAX_FILE_BYTES {
+        What::InputBytes
+    } else {
+        What::FileBytes
     }
 }

@@ -2,7 +2,8 @@
 
 ghost use Rattle.std.specs.Prelude.{◌≡◌, IfOk, map, string_bytes};
 ghost use Rattle.std.specs.Option.{option_map};
-ghost use Rattle.joern_top.specs.Words.{command, is_file_name, are_different, are_file_names};
+ghost use Rattle.std.specs.List.{list_all};
+ghost use Rattle.joern_top.specs.Words.{command, is_file_name, are_different};
 ghost use Rattle.joern_top.specs.Commands.{plain_command};
 
 use name_table::Names;
@@ -24,8 +25,12 @@ pub(crate) fn read_words(
         option_map plain_command found ≡ command (map string_bytes words.now)) }
 {
     match words {
-        [option, value, names @ ..] if option.as_str() == "--do" && value.as_str() == "dump" => {
-            if are_names(alloc, names)? {
+        [option, value, names @ ..]
+            if option.as_str() == "--do"
+                && value.as_str() == "dump"
+                && !names.is_empty()
+                && can_name_files(names) => {
+            if differ(alloc, names)? {
                 Ok(Some(Command::Dump { names }))
             } else {
                 Ok(None)
@@ -35,14 +40,11 @@ pub(crate) fn read_words(
     }
 }
 
-/// Whether the words are one or more different file names.
-fn are_names(alloc: Global, words: &[String]) -> Result<bool, AllocError>
-    ensures { IfOk result (λ are. are ≡ are_file_names (map string_bytes words.now)) }
+/// Whether each of the words can name a file.
+fn can_name_files(words: &[String]) -> bool
+    ensures { result ≡ list_all is_file_name (map string_bytes words.now) }
 {
-    if words.is_empty() || !words.iter().all(|word| can_name_a_file(word.as_str())) {
-        return Ok(false);
-    }
-    differ(alloc, words)
+    words.iter().all(|word| can_name_a_file(word.as_str()))
 }
 
 /// Whether no two of the words are the same.
