@@ -5,10 +5,10 @@ use Rattle.joern_io.specs.Held.{Held}
 use Rattle.joern_top.specs.declared.status.Status.TheVariants as status
 use Rattle.joern_top.specs.declared.answer.Answer.{Answer}
 use Rattle.joern_top.specs.declared.answer.Answer.TheVariants as answer
-use Rattle.joern_top.specs.Words.{Dump, command}
 use Rattle.joern_top.specs.Run.{Outcome, IsOutcome, read_fault_outcome}
+use Rattle.joern_top.specs.Reading.{FailsAt}
 use Rattle.joern_top.specs.Answers.{outcome_of, IsDecided}
-use Rattle.joern_top.specs.Headline.{Run, MeetsNoFault, EndsAs, WantsMemory, Completes, CanAnswer, AnswersWhatItCan}
+use Rattle.joern_top.specs.Headline.{Run, names, MeetsNoFault, EndsAs, WantsMemory, Completes, CanAnswer, AnswersWhatItCan}
 use Rattle.joern_top.proofs.Deciding.{Decides, Blames, IsWritten, if_told, by_kind}
 use Rattle.joern_top.proofs.WriteFaults.{outcome_of_lacking}
 
@@ -16,11 +16,12 @@ use Rattle.joern_top.proofs.WriteFaults.{outcome_of_lacking}
 abbrev pub Ends : Run → Held → Type 0
 Ends run held = ((o : Outcome) × IsOutcome run.words held o × EndsAs run o) ⊎ (run.status ≡ status.NoMemory)
 
-ends_after_fault : (run : Run) (held : Held) (name : List ℕ) → run.files_before.held ≡ Some held → MeetsNoFault run →
-    command run.words ≡ Some (Dump name) → RoseOrLacks run.files_before run.files_after name → EndsAs run (read_fault_outcome name) → Ends run held
-ends_after_fault run held name told no_fault commanded (inl rose) ended = absurd (no_fault.0 rose)
-ends_after_fault run held name told no_fault commanded (inr lacks) ended =
-    inl (read_fault_outcome name, outcome_of_lacking run held name told commanded lacks, ended)
+ends_after_fault : (run : Run) (held : Held) (number : ℕ) (name : List ℕ) → run.files_before.held ≡ Some held → MeetsNoFault run →
+    (fails : FailsAt run.files_before run.files_after (names run) number name) → RoseOrLacks run.files_before run.files_after name →
+    EndsAs run (read_fault_outcome number name) → Ends run held
+ends_after_fault run held number name told no_fault fails (inl rose) ended = absurd (no_fault.0 rose)
+ends_after_fault run held number name told no_fault fails (inr lacks) ended =
+    inl (read_fault_outcome number name, outcome_of_lacking run held number name told fails lacks, ended)
 
 -- What was decided, and written whole, is the rules'.
 ends_written : (run : Run) (held : Held) → run.files_before.held ≡ Some held → MeetsNoFault run → (a : Answer) →
@@ -30,7 +31,7 @@ ends_written run held told no_fault =
     EndsAs run (outcome_of a) → Ends run held in
     by_kind P
     (λ a decided rules blames ended. inl (outcome_of a, rules decided, ended))
-    (λ name rules blames ended. ends_after_fault run held name.now told no_fault blames.0 blames.1 ended)
+    (λ number name rules blames ended. ends_after_fault run held number name.now told no_fault blames blames.cause ended)
     (λ rules blames ended. inr ended.0)
 
 ends : (run : Run) (held : Held) → run.files_before.held ≡ Some held → MeetsNoFault run → (a : Answer) →
@@ -56,9 +57,9 @@ CanBeOk = (words : List (List ℕ)) (held : Held) (o : Outcome) → CanAnswer wo
 -- Want of memory is the status of that answer alone.
 only_no_memory : (a : Answer) → (outcome_of a).status ≡ status.NoMemory → a ≡ answer.NoMemory
 only_no_memory answer.Usage is = absurd cc
-only_no_memory (answer.ReadFault name) is = absurd cc
+only_no_memory (answer.ReadFault number name) is = absurd cc
 only_no_memory (answer.Limit quantity at) is = absurd cc
-only_no_memory (answer.Refused name refusal) is = absurd cc
+only_no_memory (answer.Refused number name refusal) is = absurd cc
 only_no_memory (answer.Dump built) is = absurd cc
 only_no_memory answer.NoMemory is = refl
 

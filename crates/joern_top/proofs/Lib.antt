@@ -1,11 +1,11 @@
+pub mod Differing
+pub mod Inputting
 pub mod Deciding
 pub mod Answering
 pub mod ReadFaults
 pub mod WriteFaults
 pub mod Completing
 pub mod Fate
-pub mod OneOutcome
-pub mod SomeOutcome
 pub mod Presuming
 pub mod Refusing
 pub mod Building

@@ -5,5 +5,5 @@ use Rattle.joern_top.proofs.graph.graph_of.Goals as goal
 
 pub returns-clause-ok : goal.returns-clause-ok
 returns-clause-ok c =
-    let built = built_by_pass c.args.source (sources_of c.in_ok-pass.pass) c.in_ok-empty.empty c.in_ok-pass.ensures c.in_ok-empty.ensures in
+    let built = built_by_pass c.args.sources.items (sources_of c.new-pass.result) c.in_ok-empty.empty c.new-pass.ensures c.in_ok-empty.ensures in
     sym built ∙ c.in_ok-graph.ensures.ok.is

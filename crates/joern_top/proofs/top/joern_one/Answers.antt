@@ -48,4 +48,4 @@ returns-in_default-clause-usage_line g c =
 pub returns-in_default-clause-no_command : goal.returns-in_default-clause-no_command
 returns-in_default-clause-no_command g c =
     let run = run_of g.F.Files.state g.S.Sink.state c.args.words.now c.args.files.now c.decide.new.files c.args.out.now c.write_answer.new.out c.write_answer.result in
-    λ none. no_command_is_usage run c.decide.result (c.decide.ensures.no_command none).0 c.write_answer.ensures
+    λ none. no_command_is_usage run c.decide.result c.in_default.not-NoMemory (c.decide.ensures.no_command none).0 c.write_answer.ensures
