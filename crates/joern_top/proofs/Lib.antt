@@ -6,6 +6,9 @@ pub mod ReadFaults
 pub mod WriteFaults
 pub mod Completing
 pub mod Fate
+pub mod Stopping
+pub mod OneOutcome
+pub mod SomeOutcome
 pub mod Presuming
 pub mod Refusing
 pub mod Building

@@ -90,7 +90,7 @@ fn inputs_answer<'a>(alloc: Global, inputs: Vec<Input<'a>>) -> Answer<'a>
     requires few { vec_len inputs ≤ MAX_SOURCES }
     requires within { All (λ input. size input ≤ MAX_FILE_BYTES) inputs.items }
     ensures decided { (held : Held) (names : List (List ℕ)) →
-        AreInputsOf (Some held) names inputs.items → IsDecided result →
+        AreInputsOf (Some held) names inputs.entry.items → IsDecided result →
         IsSourcesOutcome held names (outcome_of result) }
     ensures ordered { IsOrdered result }
     ensures no_usage { ¬ (result ≡ Answer.Usage) }

@@ -32,8 +32,8 @@ pub(crate) fn read_sources<'a>(
 ) -> Result<Vec<Source>, SourcesStop<'a>>
     requires few { vec_len inputs ≤ MAX_SOURCES }
     requires within { All (λ input. size input ≤ MAX_FILE_BYTES) inputs.items }
-    ensures ok { IfOk result (λ sources. AllZip IsSourceOf inputs.items sources.items) }
-    ensures stop { IfErr result (IsStopAmong inputs.items) }
+    ensures ok { IfOk result (λ sources. AllZip IsSourceOf inputs.entry.items sources.items) }
+    ensures stop { IfErr result (IsStopAmong inputs.entry.items) }
 {
     let mut sources = Vec::new(alloc);
     for input in inputs {
