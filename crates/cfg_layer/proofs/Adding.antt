@@ -66,16 +66,16 @@ function_low graph method = record { ends = return_low graph method; breaks = no
 walked_low : (graph : PlainGraph) (method x : ℕ) (kind : Kind) → IsLow (length graph.nodes) (walked_construct graph method x kind)
 walked_low graph method x kind = record { ends = return_low graph method; breaks = λ a i. (let l : a < 0 + length graph.nodes = all_high _ 0 (length graph.nodes) a i in omega arith); continues = λ a i. (let l : a < 0 + length graph.nodes = all_high _ 0 (length graph.nodes) a i in omega arith) }
 
-other_low : (count : ℕ) → IsLow count other_construct
-other_low count = record { ends = λ end e. cc; breaks = nothing count; continues = nothing count }
+other_low : (graph : PlainGraph) (method : ℕ) → IsLow (length graph.nodes) (other_construct graph method)
+other_low graph method = record { ends = return_low graph method; breaks = nothing (length graph.nodes); continues = nothing (length graph.nodes) }
 
 low : (graph : PlainGraph) (method x : ℕ) (at : PlainNode) → IsLow (length graph.nodes) (construct_of graph method x at)
 unfolding construct_of
 low graph method x at = by (x == method) (is_walked graph method x) where
-  by : (b d : Bool) → IsLow (length graph.nodes) (cond b (function_construct graph method) (cond d (walked_construct graph method x (kind_of at)) other_construct))
+  by : (b d : Bool) → IsLow (length graph.nodes) (cond b (function_construct graph method) (cond d (walked_construct graph method x (kind_of at)) (other_construct graph method)))
   by true d = function_low graph method
   by false true = walked_low graph method x (kind_of at)
-  by false false = other_low (length graph.nodes)
+  by false false = other_low graph method
 
 low_at : (graph : PlainGraph) (method x : ℕ) (c : Construct) → slice_get (plan_of graph method) x ≡ Some c → IsLow (length graph.nodes) c
 low_at graph method x c e = by (planned graph method x c e) where

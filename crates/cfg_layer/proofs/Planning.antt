@@ -251,7 +251,7 @@ planned graph method k construct e = by (planned_at graph method 0 graph.nodes k
 
 of_method : (graph : PlainGraph) (method : ℕ) (node : PlainNode) → construct_of graph method method node ≡ function_construct graph method
 unfolding construct_of
-of_method graph method node = ap (λ (b : Bool). cond b (function_construct graph method) (cond (is_walked graph method method) (walked_construct graph method method (kind_of node)) other_construct)) (eq-eqb method method refl)
+of_method graph method node = ap (λ (b : Bool). cond b (function_construct graph method) (cond (is_walked graph method method) (walked_construct graph method method (kind_of node)) (other_construct graph method))) (eq-eqb method method refl)
 
 not_equal : (x y : ℕ) → ¬ (x ≡ y) → (x == y) ≡ false
 not_equal x y n = by (x == y) refl where
@@ -259,9 +259,9 @@ not_equal x y n = by (x == y) refl where
   by true e = absurd (n (eqb-true x y e))
   by false e = refl
 
-of_other : (graph : PlainGraph) (method number : ℕ) (node : PlainNode) (b : Bool) → ¬ (number ≡ method) → is_walked graph method number ≡ b → construct_of graph method number node ≡ cond b (walked_construct graph method number (kind_of node)) other_construct
+of_other : (graph : PlainGraph) (method number : ℕ) (node : PlainNode) (b : Bool) → ¬ (number ≡ method) → is_walked graph method number ≡ b → construct_of graph method number node ≡ cond b (walked_construct graph method number (kind_of node)) (other_construct graph method)
 unfolding construct_of
-of_other graph method number node b n e = ap (λ (v : Bool). cond v (function_construct graph method) (cond (is_walked graph method number) (walked_construct graph method number (kind_of node)) other_construct)) (not_equal number method n) ∙ ap (λ (v : Bool). cond v (walked_construct graph method number (kind_of node)) other_construct) e
+of_other graph method number node b n e = ap (λ (v : Bool). cond v (function_construct graph method) (cond (is_walked graph method number) (walked_construct graph method number (kind_of node)) (other_construct graph method))) (not_equal number method n) ∙ ap (λ (v : Bool). cond v (walked_construct graph method number (kind_of node)) (other_construct graph method)) e
 
 pub walked_below : (graph : PlainGraph) (method node : ℕ) → IsWalked graph method node → IsAbove graph.edges method node
 walked_below graph method node (walk_body n b) = above_child graph method n b.is.is_child
@@ -270,8 +270,8 @@ walked_below graph method node (walk_below p q w c np nu) = above_further graph 
 pub not_itself : (graph : PlainGraph) → IsShaped graph → (method number : ℕ) → IsWalked graph method number → ¬ (number ≡ method)
 not_itself graph shaped method number w e = shaped.no_cycle method (walked_below graph method method (subst (IsWalked graph method) e w))
 
-unwalked_is : IsUnwalked other_construct
-unwalked_is = record { rule_is = refl; no_parts = refl; no_targets = refl }
+unwalked_is : (graph : PlainGraph) (method : ℕ) → IsUnwalked (other_construct graph method)
+unwalked_is graph method = record { rule_is = refl; no_parts = refl; no_targets = refl }
 
 one_node : (graph : PlainGraph) (k : ℕ) (one other : PlainNode) → slice_get graph.nodes k ≡ Some one → slice_get graph.nodes k ≡ Some other → one ≡ other
 one_node graph k one other e f = cc
@@ -298,4 +298,4 @@ is_plan_of graph method g shaped h = record {
       subst (λ (v : PlainNode). IsConstructOf graph method number (kind_of v) construct) (one_node graph number at node at_is is) (subst (IsConstructOf graph method number (kind_of at)) (sym same) (construct_is graph g method number (kind_of at)))
 
   by_other : (number : ℕ) (construct : Construct) → ¬ (number ≡ method) → ¬ IsWalked graph method number → (at : PlainNode) × (slice_get graph.nodes number ≡ Some at) × (construct ≡ construct_of graph method number at) → IsUnwalked construct
-  by_other number construct n u (at, at_is, e) = subst IsUnwalked (sym (e ∙ of_other graph method number at false n (not_told graph method number u))) unwalked_is
+  by_other number construct n u (at, at_is, e) = subst IsUnwalked (sym (e ∙ of_other graph method number at false n (not_told graph method number u))) (unwalked_is graph method)

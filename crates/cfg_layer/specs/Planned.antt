@@ -93,7 +93,8 @@ rule_of graph method node continue_jump = rule.Continue
 rule_of graph method node return_jump = rule.Return
 rule_of graph method node unknown = rule.SwitchDefault
 
--- The construct of a walked node, of the function, and of any other node.
+-- The construct of a walked node, of the function, and of any other node. Each knows where the
+-- function ends.
 abbrev pub walked_construct : PlainGraph → ℕ → ℕ → Kind → Construct
 walked_construct graph method node kind = record {
   rule = rule_of graph method node kind;
@@ -114,12 +115,12 @@ function_construct graph method = record {
   continues = [];
 }
 
-abbrev pub other_construct : Construct
-other_construct = record {
+abbrev pub other_construct : PlainGraph → ℕ → Construct
+other_construct graph method = record {
   rule = rule.Silent;
   parts = [];
   targets = [];
-  method_return = None;
+  method_return = return_at graph method;
   breaks = [];
   continues = [];
 }
@@ -129,7 +130,7 @@ unfoldable pub construct_of : PlainGraph → ℕ → ℕ → PlainNode → Const
 construct_of graph method number node =
     if number == method then function_construct graph method
     else (if is_walked graph method number then walked_construct graph method number (kind_of node)
-    else other_construct)
+    else other_construct graph method)
 
 unfoldable pub plan_from : PlainGraph → ℕ → ℕ → List PlainNode → List Construct
 plan_from graph method number [] = []

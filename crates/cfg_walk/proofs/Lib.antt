@@ -1,0 +1,15 @@
+pub mod Lists
+pub mod Children
+pub mod Numbers
+pub mod Family
+pub mod Found
+pub mod Steps
+pub mod Asked
+pub mod Complete
+pub mod Walks
+pub mod Nearest
+pub mod Arounds
+pub mod Tells
+pub mod Same
+pub mod Adding
+pub mod Placed

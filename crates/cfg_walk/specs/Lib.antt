@@ -1,0 +1,4 @@
+pub mod Kinds
+pub mod Met
+pub mod Told
+pub mod Numbered
