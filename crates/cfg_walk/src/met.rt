@@ -123,7 +123,7 @@ fn evaluated_below(graph: &Graph, index: &Index, number: u32, from: Met, kind: K
 }
 
 /// Whether the walk goes down from a node of this number and kind.
-fn goes_down(number: u32, kind: Kind) -> bool
+pub(crate) fn goes_down(number: u32, kind: Kind) -> bool
     ensures { result ≡ ((number == 0) || not (is_function (shown kind))) }
 {
     number == 0 || !kind.is_function()
