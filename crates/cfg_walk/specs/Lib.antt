@@ -3,3 +3,5 @@ pub mod Met
 pub mod Told
 pub mod Numbered
 pub mod Rows
+pub mod Jumps
+pub mod Labels
