@@ -82,7 +82,7 @@ low_at graph method x c e = by (planned graph method x c e) where
   by : (at : PlainNode) × (slice_get graph.nodes x ≡ Some at) × (c ≡ construct_of graph method x at) → IsLow (length graph.nodes) c
   by (at, is, f) = subst (IsLow (length graph.nodes)) (sym f) (low graph method x at)
 
-plan_within : (graph : PlainGraph) (method : ℕ) → length (plan_of graph method) ≡ length graph.nodes → IsWithin (length graph.nodes) (plan_of graph method)
+pub plan_within : (graph : PlainGraph) (method : ℕ) → length (plan_of graph method) ≡ length graph.nodes → IsWithin (length graph.nodes) (plan_of graph method)
 unfolding end_of Breaks Continues
 plan_within graph method count = record {
   constructs = omega (arith, count);

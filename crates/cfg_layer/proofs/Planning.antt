@@ -228,7 +228,7 @@ function_is graph method h = record {
 
 -- ---- The plan.
 
-plan_count : (graph : PlainGraph) (method x : ℕ) (nodes : List PlainNode) → length (plan_from graph method x nodes) ≡ length nodes
+pub plan_count : (graph : PlainGraph) (method x : ℕ) (nodes : List PlainNode) → length (plan_from graph method x nodes) ≡ length nodes
 unfolding plan_from
 plan_count graph method x [] = refl
 plan_count graph method x (node ∷ nodes) = let e : length (plan_from graph method (x + 1) nodes) ≡ length nodes = plan_count graph method (x + 1) nodes in ap suc e
@@ -249,7 +249,7 @@ planned graph method k construct e = by (planned_at graph method 0 graph.nodes k
   by : IsPlannedAt graph method graph.nodes 0 k construct → (node : PlainNode) × (slice_get graph.nodes k ≡ Some node) × (construct ≡ construct_of graph method k node)
   by (node, is, f) = (node, is, f ∙ ap (λ (v : ℕ). construct_of graph method v node) (let s : 0 + k ≡ k = omega arith in s))
 
-of_method : (graph : PlainGraph) (method : ℕ) (node : PlainNode) → construct_of graph method method node ≡ function_construct graph method
+pub of_method : (graph : PlainGraph) (method : ℕ) (node : PlainNode) → construct_of graph method method node ≡ function_construct graph method
 unfolding construct_of
 of_method graph method node = ap (λ (b : Bool). cond b (function_construct graph method) (cond (is_walked graph method method) (walked_construct graph method method (kind_of node)) (other_construct graph method))) (eq-eqb method method refl)
 
@@ -259,7 +259,7 @@ not_equal x y n = by (x == y) refl where
   by true e = absurd (n (eqb-true x y e))
   by false e = refl
 
-of_other : (graph : PlainGraph) (method number : ℕ) (node : PlainNode) (b : Bool) → ¬ (number ≡ method) → is_walked graph method number ≡ b → construct_of graph method number node ≡ cond b (walked_construct graph method number (kind_of node)) (other_construct graph method)
+pub of_other : (graph : PlainGraph) (method number : ℕ) (node : PlainNode) (b : Bool) → ¬ (number ≡ method) → is_walked graph method number ≡ b → construct_of graph method number node ≡ cond b (walked_construct graph method number (kind_of node)) (other_construct graph method)
 unfolding construct_of
 of_other graph method number node b n e = ap (λ (v : Bool). cond v (function_construct graph method) (cond (is_walked graph method number) (walked_construct graph method number (kind_of node)) (other_construct graph method))) (not_equal number method n) ∙ ap (λ (v : Bool). cond v (walked_construct graph method number (kind_of node)) (other_construct graph method)) e
 

@@ -5,3 +5,4 @@ pub mod Numbered
 pub mod Rows
 pub mod Jumps
 pub mod Labels
+pub mod Led
