@@ -13,3 +13,4 @@ pub mod Tells
 pub mod Same
 pub mod Adding
 pub mod Placed
+pub mod Rowing

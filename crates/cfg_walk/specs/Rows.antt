@@ -1,5 +1,5 @@
 -- The rows of the plan of a function, one for each node that is met (ours).
-use Rattle.std.specs.Prelude.{ℕ, ◌≡◌, ◌+◌, ◌==◌, ◌++◌, not, Bool, List, [], ◌∷◌, Option, Some}
+use Rattle.std.specs.Prelude.{ℕ, ◌≡◌, ◌==◌, ◌++◌, not, Bool, List, [], ◌∷◌, Option, Some}
 use Rattle.std.specs.Prelude.{if◌then◌else◌, length, map, slice_get, slice_range}
 use Rattle.cpg_schema.specs.Graph.{PlainGraph}
 use Rattle.cfg_rules.specs.declared.rule.Rule.{Rule}
@@ -11,7 +11,7 @@ use Rattle.cfg_layer.specs.Tested.{block_at, is_default_of, is_none, least_node}
 use Rattle.cfg_walk.specs.declared.met.Met.{Met}
 use Rattle.cfg_walk.specs.declared.rows.Rows.{Rows}
 use Rattle.cfg_walk.specs.Kinds.{node_kind}
-use Rattle.cfg_walk.specs.Met.{below, children_of, first_of}
+use Rattle.cfg_walk.specs.Met.{children_of, first_of}
 use Rattle.cfg_walk.specs.Numbered.{number_of}
 
 -- Something in the function is the `default` of the node.
@@ -56,7 +56,7 @@ pub record AreRowsTo (graph : PlainGraph) (method : ℕ) (met : List Met) (count
   pub each : (x : ℕ) (at : Met) (row : Row) → slice_get met x ≡ Some at →
       slice_get rows x ≡ Some row → IsRowOf graph method (first_of graph met x) x at parts row
 
--- The row of a node was added, with its parts; the children of the next one come behind its own.
+-- The row of a node was added, with its parts.
 pub record AddsRow (graph : PlainGraph) (method number : ℕ) (at : Met) (old new : Rows) : Type 0
   where
     pub row : Row
@@ -65,4 +65,3 @@ pub record AddsRow (graph : PlainGraph) (method number : ℕ) (at : Met) (old ne
     pub from_is : row.from ≡ length old.parts.items
     pub to_is : row.to ≡ length new.parts.items
     pub parts : new.parts.items ≡ old.parts.items ++ numbered_parts graph old.first number at
-    pub first : new.first ≡ old.first + length (below graph number at)

@@ -1,7 +1,7 @@
 //! The rows of the nodes that are met: of each its rule, and where its parts stand.
 
 ghost use Rattle.std.specs.Prelude.{ℕ, ◌≡◌, ◌+◌, ◌<◌, ◌^◌, ◌++◌, not, Some, Option, IfOk, OnOk};
-ghost use Rattle.std.specs.Prelude.{length, slice_get};
+ghost use Rattle.std.specs.Prelude.{length, slice_get, true};
 ghost use Rattle.cpg_schema.specs.Shape.{IsShaped};
 ghost use Rattle.graph_store.specs.Stored.{plain};
 ghost use Rattle.edge_index.specs.Indexed.{IsIndexOf};
@@ -225,7 +225,9 @@ impl Rows {
         requires index { IsIndexOf graph.now index.now }
         requires inside { at.node < length graph.now.nodes }
         requires few { self.old.first + length (below (plain graph.now) number at) < 2 ^ 32 }
-        ensures { OnOk result ((method : ℕ) →
+        ensures first { OnOk result (self.new.first ≡
+            self.old.first + length (below (plain graph.now) number at)) }
+        ensures row { OnOk result ((method : ℕ) →
             with_default ≡ has_default (plain graph.now) method at.node →
             AddsRow (plain graph.now) method number at self.old self.new) }
     {
