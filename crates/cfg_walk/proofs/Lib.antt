@@ -14,3 +14,4 @@ pub mod Same
 pub mod Adding
 pub mod Placed
 pub mod Rowing
+pub mod Owning
