@@ -15,3 +15,7 @@ pub mod Adding
 pub mod Placed
 pub mod Rowing
 pub mod Owning
+pub mod Outer
+pub mod Sites
+pub mod Jumping
+pub mod Labelling

@@ -48,6 +48,11 @@ IsFound graph met name None = (number : ℕ) (at : Met) →
     ¬ IsLabelMet graph met (length met) name number at
 IsFound graph met name (Some number) = IsLeastMet graph met (length met) name number
 
+-- No node has two numbers.
+abbrev pub AreOnce : List Met → Type 0
+AreOnce met = (x y : ℕ) (one other : Met) → slice_get met x ≡ Some one →
+    slice_get met y ≡ Some other → one.node ≡ other.node → x ≡ y
+
 -- A walked `goto` leads to the label of its NAME, where that one is walked.
 pub record GoesTo (graph : PlainGraph) (met : List Met) (at : Met) (target : ℕ) : Type 0 where
   pub walked : at.walked ≡ Bool.true

@@ -90,8 +90,8 @@ fn add_jump(jumps: &mut Vec<Jump>, construct: Option<u32>, mark: u32) -> Result<
 }
 
 /// Sets the flag of this number, where there is one.
-fn set_flag(flags: &mut [bool], number: Option<u32>)
-    ensures { IsFlagged number flags.old flags.new }
+fn set_flag(flags: &mut Vec<bool>, number: Option<u32>)
+    ensures { IsFlagged number flags.old.items flags.new.items }
 {
     if let Some(number) = number {
         if (number as usize) < flags.len() {

@@ -5,8 +5,8 @@ ghost use Rattle.std.specs.Prelude.{List, length, slice_get};
 ghost use Rattle.cpg_schema.specs.Graph.{PlainGraph};
 ghost use Rattle.graph_store.specs.Stored.{plain};
 ghost use Rattle.cfg_walk.specs.Kinds.{shown};
-ghost use Rattle.cfg_walk.specs.Labels.{AreGotos, AreLabels, IsFound, IsGotoAdded, IsNameOf};
-ghost use Rattle.cfg_walk.specs.Labels.{IsTargetOf};
+ghost use Rattle.cfg_walk.specs.Labels.{AreGotos, AreLabels, AreOnce, IsFound, IsGotoAdded};
+ghost use Rattle.cfg_walk.specs.Labels.{IsNameOf, IsTargetOf};
 
 use crate::kind::{Kind, kind_of};
 use crate::met::Met;
@@ -104,6 +104,7 @@ fn labels_of(alloc: Global, graph: &Graph, met: &[Met]) -> Result<Labels, AllocE
 /// Where a node that is met leads, if it is a walked `goto` and its label is walked.
 fn target_of(graph: &Graph, met: &[Met], labels: &Labels, at: Met) -> Option<u32>
     requires inside { at.node < length graph.now.nodes }
+    requires once { AreOnce met.now }
     requires labels { AreLabels (plain graph.now) met.now (length met.now) labels.now.names
         labels.now.numbers.items }
     ensures { IsTargetOf (plain graph.now) met.now at result }
@@ -141,6 +142,7 @@ pub(crate) fn gotos_of(
 ) -> Result<Vec<Jump>, AllocError>
     requires inside { (x : ℕ) (at : Met) → slice_get met.now x ≡ Some at →
         at.node < length graph.now.nodes }
+    requires once { AreOnce met.now }
     requires small { length met.now < 2 ^ 32 }
     ensures { IfOk result (λ jumps.
         AreGotos (plain graph.now) met.now (length met.now) jumps.items) }
