@@ -86,7 +86,7 @@ module _ (graph : PlainGraph) (shaped : IsShaped graph) (is_graph : IsGraph grap
   abbrev pub BelongsTo : Inner → ℕ → ℕ → Type 0
   BelongsTo inner around y = Belongs graph method (IsInner inner) (IsOuter inner) y around
 
-  owned_at : (inner : Inner) (x : ℕ) (at : Met) (m : ℕ) → slice_get met x ≡ Some at → IsOwned graph inner met (length met) x m → BelongsTo inner at.node (node_of met m)
+  pub owned_at : (inner : Inner) (x : ℕ) (at : Met) (m : ℕ) → slice_get met x ≡ Some at → IsOwned graph inner met (length met) x m → BelongsTo inner at.node (node_of met m)
   owned_at inner x at m e o =
       let b = owned_by graph method met t inner m o.at x o.is o.owner in
       let same : b.at ≡ at = same_get met x b.at at b.is e in

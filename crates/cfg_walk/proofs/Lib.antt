@@ -19,3 +19,7 @@ pub mod Outer
 pub mod Sites
 pub mod Jumping
 pub mod Labelling
+pub mod Flattening
+pub mod Renumbering
+pub mod Defaults
+pub mod Result

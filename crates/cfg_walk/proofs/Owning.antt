@@ -109,7 +109,7 @@ module _ (graph : PlainGraph) (inner : Inner) (met : List Met) where
 
       elsewhere : (x : ℕ) (flag : Bool) → slice_get new x ≡ Some flag → ¬ (x ≡ c) → IsFlag x flag
       elsewhere x flag e other =
-          let there : slice_get old x ≡ Some flag = sym (set.1.0 x other) ∙ e in
+          let there : slice_get old x ≡ Some flag = sym (set.1 x other) ∙ e in
           (λ t. (let o = (h.each x flag there).0 t in (o.0, more n x o.0 o.1)), λ o. (h.each x flag there).1 (back x o.0 other (either n x o.0 at is o.1)))
 
       here : (x : ℕ) (flag : Bool) → slice_get new x ≡ Some flag → x ≡ c → IsFlag x flag
@@ -117,7 +117,7 @@ module _ (graph : PlainGraph) (inner : Inner) (met : List Met) where
           let low : x < length new = slice_get_within new x flag e in
           let count = set.0 in
           let inside : c < length old = omega arith in
-          let there : slice_get new x ≡ Some true = ap (slice_get new) same ∙ set.1.1 inside in
+          let there : slice_get new x ≡ Some true = ap (slice_get new) same ∙ set.2 inside in
           let is_true : flag ≡ true = (let s : Some flag ≡ Some true = sym e ∙ there in cc) in
           (λ t. (n, next_one n x at is (sym owner_is ∙ ap Some (sym same))), λ o. is_true)
 

@@ -96,7 +96,7 @@ module _ (graph : PlainGraph) (shaped : IsShaped graph) (is_graph : IsGraph grap
       let low : at.node < length graph.nodes = tell.inside x at e in
       let r = read (plan_of graph method) at.node (omega arith) in
       let n = planned graph method at.node r.0 r.1 in
-      record { node = n.0; node_at = n.1.0; site_is = r.1 ∙ ap Some (n.1.1 ∙ construct_is x at n.0 e) }
+      record { node = n.0; node_at = n.1; site_is = r.1 ∙ ap Some (n.2 ∙ construct_is x at n.0 e) }
 
   pub rule_same : (x : ℕ) (at : Met) (node : PlainNode) → slice_get graph.nodes at.node ≡ Some node → (site_at x at node).rule ≡ row_rule graph method x at
   rule_same x at node e = by (x == 0) at.walked
