@@ -1,5 +1,5 @@
 -- Labels that are added one by one, each NAME with its least node; and where a `goto` leads.
-use Rattle.std.proofs.Common.{ℕ, zero, suc, ◌≡◌, ◌+◌, ◌<◌, ◌≤◌, ◌⊎◌, ◌↔◌, inl, inr, Bool, true, false, List, [], ◌∷◌, ◌++◌, Option, Some, None, slice_get, length, refl, sym, ◌∙◌, ap, subst, arith}
+use Rattle.std.proofs.Common.{ℕ, zero, suc, ◌≡◌, ◌+◌, ◌<◌, ◌≤◌, ◌⊎◌, ◌↔◌, inl, inr, Bool, true, false, List, [], ◌∷◌, ◌++◌, Option, Some, None, slice_get, slice_set, length, refl, sym, ◌∙◌, ap, subst, arith}
 use Rattle.std.specs.List.{Contains}
 use Rattle.std.proofs.lemmas.Bool.{cases_lt}
 use Rattle.std.proofs.lemmas.List.{length-append}
@@ -13,6 +13,7 @@ use Rattle.cfg_flow.specs.declared.plan.Jump.{Jump}
 use Rattle.cfg_flow.proofs.Members.{in_append, in_one, one_in}
 use Rattle.cfg_layer.specs.Kinds.{IsTargetNamed, Kind, goto_jump}
 use Rattle.cfg_walk.specs.declared.met.Met.{Met}
+use Rattle.cfg_walk.specs.Kinds.{kind_at, node_kind}
 use Rattle.cfg_walk.specs.Labels.{AreGotos, AreLabels, AreOnce, GoesTo, IsFound, IsGotoAdded, IsGotoFrom, IsLabelMet, IsLeastMet, IsNameOf, IsNamed, IsTargetOf}
 use Rattle.cfg_walk.proofs.Lists.{Split, get_left, get_right, in_left, in_right, read, same_get, split}
 
@@ -235,3 +236,51 @@ module _ (graph : PlainGraph) (met : List Met) where
           let marks : target ≡ j.mark = one_goal once at target j.mark is g in
           let js : leap n target ≡ j = ap (λ (x : ℕ). leap x target) (sym s) ∙ ap (λ (y : ℕ). leap j.construct y) marks in
           inr (subst (IsIn (leap n target ∷ [])) js (one_in (leap n target)))
+
+  -- Where its label is not walked it leads nowhere.
+  pub no_goal : AreOnce met → (at : Met) (name : List ℕ) (x y : ℕ) → IsNodeWith graph (IsNamed goto_jump name) at.node → (l : IsLeastMet graph met (length met) name x) → l.at.walked ≡ false → ¬ GoesTo graph met at y
+  no_goal once at name x y is l dark g =
+      let names : g.name ≡ name = one_name graph goto_jump goto_jump g.name name at.node g.is_goto is in
+      let one = g.label.least x l.at (subst (λ (v : List ℕ). IsLabelMet graph met (length met) v x l.at) (sym names) l.label) in
+      let two = l.least y g.label.at (subst (λ (v : List ℕ). IsLabelMet graph met (length met) v y g.label.at) names g.label.label) in
+      let same : y ≡ x = once y x g.label.at l.at g.label.label.is l.label.is (omega arith) in
+      let ats : g.label.at ≡ l.at = same_get met x g.label.at l.at (subst (λ (k : ℕ). slice_get met k ≡ Some g.label.at) same g.label.label.is) l.label.is in
+      let s : l.at.walked ≡ true = sym (ap (λ (m : Met). m.walked) ats) ∙ g.target_walked in
+      (let c : true ≡ false = sym s ∙ dark in cc)
+
+  -- Where its NAME has no label too.
+  pub no_label : (at : Met) (name : List ℕ) (y : ℕ) → IsNodeWith graph (IsNamed goto_jump name) at.node → ((number : ℕ) (its : Met) → ¬ IsLabelMet graph met (length met) name number its) → ¬ GoesTo graph met at y
+  no_label at name y is none g =
+      let names : g.name ≡ name = one_name graph goto_jump goto_jump g.name name at.node g.is_goto is in
+      none y g.label.at (subst (λ (v : List ℕ). IsLabelMet graph met (length met) v y g.label.at) names g.label.label)
+
+-- ---- The NAME of a node of a kind.
+
+pub name_found : (graph : PlainGraph) (kind : Kind) (node : ℕ) (text : Option (List ℕ)) (at : PlainNode) → slice_get graph.nodes node ≡ Some at → node_kind graph node ≡ kind → text ≡ at.name → IsNameOf graph kind node text
+name_found graph kind node None at is k e = λ name w.
+    let same : at ≡ w.node = same_get graph.nodes node at w.node is w.node_is in
+    let s : None ≡ Some name = e ∙ (ap (λ (n : PlainNode). n.name) same ∙ w.has.1) in
+    cc
+name_found graph kind node (Some name) at is k e = record { node = at; node_is = is; has = (sym (ap kind_at is) ∙ k, sym e) }
+
+pub name_lacking : (graph : PlainGraph) (kind : Kind) (node : ℕ) → ¬ (node_kind graph node ≡ kind) → IsNameOf graph kind node None
+name_lacking graph kind node n = λ name w. n (ap kind_at w.node_is ∙ w.has.0)
+
+-- ---- A number that is set.
+
+pub set_get : (xs : List ℕ) (i x : ℕ) → i < length xs → slice_get (slice_set xs i x) i ≡ Some x
+set_get [] i x low = absurd (omega arith)
+set_get (y ∷ xs) zero x low = refl
+set_get (y ∷ xs) (suc i) x low = set_get xs i x (omega arith)
+
+pub set_others : (xs : List ℕ) (i x j : ℕ) → ¬ (j ≡ i) → slice_get (slice_set xs i x) j ≡ slice_get xs j
+set_others [] i x j n = refl
+set_others (y ∷ xs) zero x zero n = absurd (n refl)
+set_others (y ∷ xs) zero x (suc j) n = refl
+set_others (y ∷ xs) (suc i) x zero n = refl
+set_others (y ∷ xs) (suc i) x (suc j) n = set_others xs i x j (λ s. n (ap suc s))
+
+pub set_count : (xs : List ℕ) (i x : ℕ) → length (slice_set xs i x) ≡ length xs
+set_count [] i x = refl
+set_count (y ∷ xs) zero x = refl
+set_count (y ∷ xs) (suc i) x = let rest = set_count xs i x in omega arith

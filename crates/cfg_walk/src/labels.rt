@@ -4,7 +4,7 @@ ghost use Rattle.std.specs.Prelude.{ℕ, ◌≡◌, ◌+◌, ◌<◌, ◌^◌, S
 ghost use Rattle.std.specs.Prelude.{List, length, slice_get};
 ghost use Rattle.cpg_schema.specs.Graph.{PlainGraph};
 ghost use Rattle.graph_store.specs.Stored.{plain};
-ghost use Rattle.cfg_walk.specs.Kinds.{shown};
+ghost use Rattle.cfg_layer.specs.Kinds.{goto_jump, jump_target};
 ghost use Rattle.cfg_walk.specs.Labels.{AreGotos, AreLabels, AreOnce, IsFound, IsGotoAdded};
 ghost use Rattle.cfg_walk.specs.Labels.{IsNameOf, IsTargetOf};
 
@@ -23,15 +23,25 @@ pub(crate) struct Labels {
     numbers: Vec<u32>,
 }
 
-/// The NAME of a node, if it is of this kind.
-fn name_of(graph: &Graph, node: u32, kind: Kind) -> Option<&[u8]>
+/// The NAME of a node, if it is a JUMP_TARGET.
+fn label_name(graph: &Graph, node: u32) -> Option<&[u8]>
     requires { node < length graph.now.nodes }
-    ensures { IsNameOf (plain graph.now) (shown kind) node (option_copied result) }
+    ensures { IsNameOf (plain graph.now) jump_target node (option_copied result) }
 {
-    if kind_of(graph, node) == kind {
-        graph.text(node, Key::Name)
-    } else {
-        None
+    match kind_of(graph, node) {
+        Kind::JumpTarget => graph.text(node, Key::Name),
+        _ => None,
+    }
+}
+
+/// The NAME of a node, if it is a `goto`.
+fn goto_name(graph: &Graph, node: u32) -> Option<&[u8]>
+    requires { node < length graph.now.nodes }
+    ensures { IsNameOf (plain graph.now) goto_jump node (option_copied result) }
+{
+    match kind_of(graph, node) {
+        Kind::Goto => graph.text(node, Key::Name),
+        _ => None,
     }
 }
 
@@ -53,7 +63,7 @@ impl Labels {
             self.new.numbers.items) }
     {
         let at = met[number as usize];
-        let Some(name) = name_of(graph, at.node, Kind::JumpTarget) else {
+        let Some(name) = label_name(graph, at.node) else {
             return Ok(());
         };
         match self.names.number_of(name) {
@@ -78,8 +88,10 @@ impl Labels {
             AreLabels graph met (length met) self.now.names self.now.numbers.items →
             IsFound graph met name.now result }
     {
-        let label = self.names.number_of(name)?;
-        Some(self.numbers[label as usize])
+        match self.names.number_of(name) {
+            Some(label) => Some(self.numbers[label as usize]),
+            None => None,
+        }
     }
 }
 
@@ -112,8 +124,12 @@ fn target_of(graph: &Graph, met: &[Met], labels: &Labels, at: Met) -> Option<u32
     if !at.walked {
         return None;
     }
-    let name = name_of(graph, at.node, Kind::Goto)?;
-    let target = labels.find(name)?;
+    let Some(name) = goto_name(graph, at.node) else {
+        return None;
+    };
+    let Some(target) = labels.find(name) else {
+        return None;
+    };
     if met[target as usize].walked {
         Some(target)
     } else {
