@@ -1,6 +1,6 @@
 //! The control flow of a function: its plan by a walk, and the edges of that, led back to nodes.
 
-ghost use Rattle.std.specs.Prelude.{ℕ, ◌≡◌, ◌<◌, ◌↔◌, IfOk, length, map};
+ghost use Rattle.std.specs.Prelude.{ℕ, ◌≡◌, ◌+◌, ◌<◌, ◌^◌, ◌↔◌, IfOk, length, map};
 ghost use Rattle.std.specs.List.{Contains};
 ghost use Rattle.cpg_schema.specs.Shape.{IsShaped};
 ghost use Rattle.graph_store.specs.Stored.{plain};
@@ -12,7 +12,7 @@ ghost use Rattle.cfg_layer.specs.Planned.{flow_of, plan_of};
 ghost use Rattle.cfg_layer.specs.Tested.{return_at};
 ghost use Rattle.cfg_layer.specs.Walked.{HasBody};
 ghost use Rattle.cfg_walk.specs.Led.{edge_of, node_of};
-ghost use Rattle.cfg_walk.specs.Met.{AreMet, children_of};
+ghost use Rattle.cfg_walk.specs.Met.{AreMet, below, children_of, first_met};
 ghost use Rattle.cfg_walk.specs.Numbered.{number_of};
 
 use crate::jumps::{Inner, defaults_of, jumps_of};
@@ -30,13 +30,12 @@ use std::alloc::{AllocError, Global};
 
 /// The number of the METHOD_RETURN, which is a child of the function.
 fn end_of(graph: &Graph, index: &Index, method: u32) -> Option<u32>
-    requires shaped { IsShaped (plain graph.now) }
     requires index { IsIndexOf graph.now index.now }
     requires inside { method < length graph.now.nodes }
+    requires few { 1 + length (below (plain graph.now) 0 (first_met method)) < 2 ^ 32 }
     ensures { result ≡ number_of (children_of (plain graph.now) method) 1
         (return_at (plain graph.now) method) }
 {
-    law_stored(graph);
     let end = child_of(graph, index, method, Label::MethodReturn);
     let children = index.out(method, EdgeKind::Ast);
     number_among(children, 1, end)
@@ -60,12 +59,13 @@ fn plan_of(
 {
     law_stored(graph);
     let defaults = defaults_of(alloc, graph, met)?;
-    let Rows { rows, parts, .. } = rows_of(alloc, graph, index, met, defaults.as_slice())?;
+    let listed = rows_of(alloc, graph, index, met, defaults.as_slice())?;
     let mut targets = jumps_of(alloc, graph, met, Inner::Case)?;
     let gotos = gotos_of(alloc, graph, met)?;
     targets.extend_from_slice(gotos.as_slice())?;
     let breaks = jumps_of(alloc, graph, met, Inner::Break)?;
     let continues = jumps_of(alloc, graph, met, Inner::Continue)?;
+    let Rows { rows, parts, .. } = listed;
     Ok(Plan {
         rows,
         parts,
@@ -95,8 +95,8 @@ fn lead_back(
     ensures { IfOk result (λ led. led.items ≡ map (edge_of met.now) edges.now) }
 {
     let mut led = Vec::new(alloc);
-    for (from, to) in edges {
-        led.push((node_of(met, *from), node_of(met, *to)))?;
+    for edge in edges {
+        led.push((node_of(met, edge.0), node_of(met, edge.1)))?;
     }
     Ok(led)
 }

@@ -1,4 +1,4 @@
-use Rattle.std.proofs.Common.{ℕ, ◌≡◌, ◌<◌, Bool, List, Option, Some, None, length, refl, sym, ◌∙◌, ap, arith, subst, slice_get, get_or}
+use Rattle.std.proofs.Common.{ℕ, ◌≡◌, ◌<◌, Bool, true, false, not, List, Option, Some, None, length, refl, sym, ◌∙◌, ap, arith, subst, slice_get, get_or}
 use Rattle.std.specs.Prelude.{option_copied}
 use Rattle.std.proofs.lemmas.Option.{get_or_from_slice_get, slice_get_within}
 use Rattle.graph_store.specs.Stored.{plain}
@@ -11,6 +11,10 @@ use Rattle.cfg_walk.proofs.labels.target_of.Goals as goal
 
 abbrev no_met : Met
 no_met = record { node = 0; walked = Bool.false; around = nothing_around }
+
+not_false : (b : Bool) → not b ≡ Bool.false → b ≡ Bool.true
+not_false true e = refl
+not_false false e = cc
 
 pub bounds-met-target : goal.bounds-met-target
 bounds-met-target c =
@@ -26,7 +30,7 @@ returns-then-met-target c =
     let is = subst (λ o. IsNameOf graph goto_jump c.args.at.node (option_copied o)) c.in-Some.is c.goto_name.ensures in
     let ats : get_or met c.in-Some-find.target no_met ≡ l.at = get_or_from_slice_get met c.in-Some-find.target l.at no_met l.label.is in
     record {
-      walked = c.if-not-at.false;
+      walked = not_false c.args.at.walked c.if-not-at.false;
       name = c.in-Some.name.now;
       is_goto = is;
       label = l;
