@@ -45,3 +45,16 @@ returns-else-met-target c = λ y.
     let is = subst (λ o. IsNameOf graph goto_jump c.args.at.node (option_copied o)) c.in-Some.is c.goto_name.ensures in
     let ats : get_or met c.in-Some-find.target no_met ≡ l.at = get_or_from_slice_get met c.in-Some-find.target l.at no_met l.label.is in
     no_goal graph met c.requires.once c.args.at c.in-Some.name.now c.in-Some-find.target y is l (sym (ap (λ (m : Met). m.walked) ats) ∙ c.if-met-target.false)
+
+pub returns-in_default : goal.returns-in_default
+returns-in_default c = λ y g.
+    subst (λ o. IsNameOf (plain c.args.graph.now) goto_jump c.args.at.node (option_copied o)) c.in_default.is c.goto_name.ensures g.name g.is_goto
+
+pub returns-in_default-find : goal.returns-in_default-find
+returns-in_default-find c = λ y.
+    let graph = plain c.args.graph.now in
+    let met = c.args.met.now in
+    let name = c.in-Some.name.now in
+    let is = subst (λ o. IsNameOf graph goto_jump c.args.at.node (option_copied o)) c.in-Some.is c.goto_name.ensures in
+    let none = subst (λ o. IsFound graph met name o) c.in_default-find.is (c.find.ensures graph met c.requires.labels) in
+    no_label graph met c.args.at name y is none

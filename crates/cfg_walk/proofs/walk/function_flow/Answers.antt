@@ -5,8 +5,8 @@ use Rattle.cfg_flow.specs.Plans.{constructs}
 use Rattle.cfg_walk.proofs.Result.{flow_result}
 use Rattle.cfg_walk.proofs.walk.function_flow.Goals as goal
 
-pub met_in-met-requires-clause-inside : goal.met_in-met-requires-clause-inside
-met_in-met-requires-clause-inside c = slice_get_within c.args.graph.now.nodes c.args.method c.requires.body.is_method.node c.requires.body.is_method.node_is
+pub met_in-requires-clause-inside : goal.met_in-requires-clause-inside
+met_in-requires-clause-inside c = slice_get_within c.args.graph.now.nodes c.args.method c.requires.body.is_method.node c.requires.body.is_method.node_is
 
 pub returns : goal.returns
 returns c =

@@ -11,77 +11,74 @@ use Rattle.cfg_walk.proofs.Renumbering.{IsPlanned, flat, renumbered}
 use Rattle.cfg_walk.proofs.Rowing.{first_few, first_start}
 use Rattle.cfg_walk.proofs.walk.plan_of.Goals as goal
 
-pub defaults_of-defaults-requires : goal.defaults_of-defaults-requires
-defaults_of-defaults-requires c = node_low (plain c.args.graph.now) c.requires.shaped c.law_stored.ensures.is_graph c.args.method (slice_get_within c.args.graph.now.nodes c.args.method c.requires.body.is_method.node c.requires.body.is_method.node_is) c.args.met.now (length c.args.met.now) c.requires.met
+pub defaults_of-requires : goal.defaults_of-requires
+defaults_of-requires c = node_low (plain c.args.graph.now) c.requires.shaped c.law_stored.ensures.is_graph c.args.method (slice_get_within c.args.graph.now.nodes c.args.method c.requires.body.is_method.node c.requires.body.is_method.node_is) c.args.met.now (length c.args.met.now) c.requires.met
 
-pub rows_of-listed-requires-clause-inside : goal.rows_of-listed-requires-clause-inside
-rows_of-listed-requires-clause-inside c = node_low (plain c.args.graph.now) c.requires.shaped c.law_stored.ensures.is_graph c.args.method (slice_get_within c.args.graph.now.nodes c.args.method c.requires.body.is_method.node c.requires.body.is_method.node_is) c.args.met.now (length c.args.met.now) c.requires.met
+pub rows_of-requires-clause-inside : goal.rows_of-requires-clause-inside
+rows_of-requires-clause-inside c = node_low (plain c.args.graph.now) c.requires.shaped c.law_stored.ensures.is_graph c.args.method (slice_get_within c.args.graph.now.nodes c.args.method c.requires.body.is_method.node c.requires.body.is_method.node_is) c.args.met.now (length c.args.met.now) c.requires.met
 
-pub rows_of-listed-requires-clause-count : goal.rows_of-listed-requires-clause-count
-rows_of-listed-requires-clause-count c = c.in_ok-defaults.ensures.count_is
-
-pub rows_of-listed-requires-clause-small : goal.rows_of-listed-requires-clause-small
-rows_of-listed-requires-clause-small c =
+pub rows_of-requires-clause-small : goal.rows_of-requires-clause-small
+rows_of-requires-clause-small c =
     let all = few (plain c.args.graph.now) c.requires.shaped c.law_stored.ensures.is_graph c.args.method (slice_get_within c.args.graph.now.nodes c.args.method c.requires.body.is_method.node c.requires.body.is_method.node_is) c.args.met.now (length c.args.met.now) c.requires.met in
     let few_nodes = c.law_stored.ensures.few_nodes in
     let small = c.law_stored.ensures.small_nodes in
     let last = c.requires.met.length_is in
     omega arith
 
-pub rows_of-listed-requires-clause-few : goal.rows_of-listed-requires-clause-few
-rows_of-listed-requires-clause-few c =
+pub rows_of-requires-clause-few : goal.rows_of-requires-clause-few
+rows_of-requires-clause-few c =
     let all = few (plain c.args.graph.now) c.requires.shaped c.law_stored.ensures.is_graph c.args.method (slice_get_within c.args.graph.now.nodes c.args.method c.requires.body.is_method.node c.requires.body.is_method.node_is) c.args.met.now (length c.args.met.now) c.requires.met in
     let few_nodes = c.law_stored.ensures.few_nodes in
     let small = c.law_stored.ensures.small_nodes in
     let last = c.requires.met.length_is in
     omega arith
 
-pub jumps_of-targets-requires-clause-inside : goal.jumps_of-targets-requires-clause-inside
-jumps_of-targets-requires-clause-inside c = node_low (plain c.args.graph.now) c.requires.shaped c.law_stored.ensures.is_graph c.args.method (slice_get_within c.args.graph.now.nodes c.args.method c.requires.body.is_method.node c.requires.body.is_method.node_is) c.args.met.now (length c.args.met.now) c.requires.met
+pub jumps_of-requires-clause-inside : goal.jumps_of-requires-clause-inside
+jumps_of-requires-clause-inside c = node_low (plain c.args.graph.now) c.requires.shaped c.law_stored.ensures.is_graph c.args.method (slice_get_within c.args.graph.now.nodes c.args.method c.requires.body.is_method.node c.requires.body.is_method.node_is) c.args.met.now (length c.args.met.now) c.requires.met
 
-pub jumps_of-targets-requires-clause-small : goal.jumps_of-targets-requires-clause-small
-jumps_of-targets-requires-clause-small c =
+pub jumps_of-requires-clause-small : goal.jumps_of-requires-clause-small
+jumps_of-requires-clause-small c =
     let all = few (plain c.args.graph.now) c.requires.shaped c.law_stored.ensures.is_graph c.args.method (slice_get_within c.args.graph.now.nodes c.args.method c.requires.body.is_method.node c.requires.body.is_method.node_is) c.args.met.now (length c.args.met.now) c.requires.met in
     let few_nodes = c.law_stored.ensures.few_nodes in
     let small = c.law_stored.ensures.small_nodes in
     let last = c.requires.met.length_is in
     omega arith
 
-pub jumps_of-breaks-requires-clause-inside : goal.jumps_of-breaks-requires-clause-inside
-jumps_of-breaks-requires-clause-inside c = node_low (plain c.args.graph.now) c.requires.shaped c.law_stored.ensures.is_graph c.args.method (slice_get_within c.args.graph.now.nodes c.args.method c.requires.body.is_method.node c.requires.body.is_method.node_is) c.args.met.now (length c.args.met.now) c.requires.met
+pub jumps_of-requires-2-clause-inside : goal.jumps_of-requires-2-clause-inside
+jumps_of-requires-2-clause-inside c = node_low (plain c.args.graph.now) c.requires.shaped c.law_stored.ensures.is_graph c.args.method (slice_get_within c.args.graph.now.nodes c.args.method c.requires.body.is_method.node c.requires.body.is_method.node_is) c.args.met.now (length c.args.met.now) c.requires.met
 
-pub jumps_of-breaks-requires-clause-small : goal.jumps_of-breaks-requires-clause-small
-jumps_of-breaks-requires-clause-small c =
+pub jumps_of-requires-2-clause-small : goal.jumps_of-requires-2-clause-small
+jumps_of-requires-2-clause-small c =
     let all = few (plain c.args.graph.now) c.requires.shaped c.law_stored.ensures.is_graph c.args.method (slice_get_within c.args.graph.now.nodes c.args.method c.requires.body.is_method.node c.requires.body.is_method.node_is) c.args.met.now (length c.args.met.now) c.requires.met in
     let few_nodes = c.law_stored.ensures.few_nodes in
     let small = c.law_stored.ensures.small_nodes in
     let last = c.requires.met.length_is in
     omega arith
 
-pub jumps_of-continues-requires-clause-inside : goal.jumps_of-continues-requires-clause-inside
-jumps_of-continues-requires-clause-inside c = node_low (plain c.args.graph.now) c.requires.shaped c.law_stored.ensures.is_graph c.args.method (slice_get_within c.args.graph.now.nodes c.args.method c.requires.body.is_method.node c.requires.body.is_method.node_is) c.args.met.now (length c.args.met.now) c.requires.met
+pub jumps_of-requires-3-clause-inside : goal.jumps_of-requires-3-clause-inside
+jumps_of-requires-3-clause-inside c = node_low (plain c.args.graph.now) c.requires.shaped c.law_stored.ensures.is_graph c.args.method (slice_get_within c.args.graph.now.nodes c.args.method c.requires.body.is_method.node c.requires.body.is_method.node_is) c.args.met.now (length c.args.met.now) c.requires.met
 
-pub jumps_of-continues-requires-clause-small : goal.jumps_of-continues-requires-clause-small
-jumps_of-continues-requires-clause-small c =
+pub jumps_of-requires-3-clause-small : goal.jumps_of-requires-3-clause-small
+jumps_of-requires-3-clause-small c =
     let all = few (plain c.args.graph.now) c.requires.shaped c.law_stored.ensures.is_graph c.args.method (slice_get_within c.args.graph.now.nodes c.args.method c.requires.body.is_method.node c.requires.body.is_method.node_is) c.args.met.now (length c.args.met.now) c.requires.met in
     let few_nodes = c.law_stored.ensures.few_nodes in
     let small = c.law_stored.ensures.small_nodes in
     let last = c.requires.met.length_is in
     omega arith
 
-pub gotos_of-gotos-requires-clause-inside : goal.gotos_of-gotos-requires-clause-inside
-gotos_of-gotos-requires-clause-inside c = node_low (plain c.args.graph.now) c.requires.shaped c.law_stored.ensures.is_graph c.args.method (slice_get_within c.args.graph.now.nodes c.args.method c.requires.body.is_method.node c.requires.body.is_method.node_is) c.args.met.now (length c.args.met.now) c.requires.met
+pub gotos_of-requires-clause-inside : goal.gotos_of-requires-clause-inside
+gotos_of-requires-clause-inside c = node_low (plain c.args.graph.now) c.requires.shaped c.law_stored.ensures.is_graph c.args.method (slice_get_within c.args.graph.now.nodes c.args.method c.requires.body.is_method.node c.requires.body.is_method.node_is) c.args.met.now (length c.args.met.now) c.requires.met
 
-pub gotos_of-gotos-requires-clause-small : goal.gotos_of-gotos-requires-clause-small
-gotos_of-gotos-requires-clause-small c =
+pub gotos_of-requires-clause-small : goal.gotos_of-requires-clause-small
+gotos_of-requires-clause-small c =
     let all = few (plain c.args.graph.now) c.requires.shaped c.law_stored.ensures.is_graph c.args.method (slice_get_within c.args.graph.now.nodes c.args.method c.requires.body.is_method.node c.requires.body.is_method.node_is) c.args.met.now (length c.args.met.now) c.requires.met in
     let few_nodes = c.law_stored.ensures.few_nodes in
     let small = c.law_stored.ensures.small_nodes in
     let last = c.requires.met.length_is in
     omega arith
 
-pub gotos_of-gotos-requires-clause-once : goal.gotos_of-gotos-requires-clause-once
-gotos_of-gotos-requires-clause-once c = one_number (plain c.args.graph.now) c.requires.shaped c.law_stored.ensures.is_graph c.args.method (slice_get_within c.args.graph.now.nodes c.args.method c.requires.body.is_method.node c.requires.body.is_method.node_is) c.args.met.now (length c.args.met.now) c.requires.met
+pub gotos_of-requires-clause-once : goal.gotos_of-requires-clause-once
+gotos_of-requires-clause-once c = one_number (plain c.args.graph.now) c.requires.shaped c.law_stored.ensures.is_graph c.args.method (slice_get_within c.args.graph.now.nodes c.args.method c.requires.body.is_method.node c.requires.body.is_method.node_is) c.args.met.now (length c.args.met.now) c.requires.met
 
 pub end_of-requires-clause-inside : goal.end_of-requires-clause-inside
 end_of-requires-clause-inside c = slice_get_within c.args.graph.now.nodes c.args.method c.requires.body.is_method.node c.requires.body.is_method.node_is
