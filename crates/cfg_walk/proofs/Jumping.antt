@@ -96,9 +96,9 @@ module _ (graph : PlainGraph) (shaped : IsShaped graph) (is_graph : IsGraph grap
   among_inner inner jumps x at owned e = record {
     there = λ m i. owned_at inner x at m e ((owned (jump x m)).0 i);
     back = λ y b.
-      let w = (t.walked y).0 b.is.walked in
-      let owner = owner_is graph method met t inner w.number w.at.at x at w.at.is e (subst (BelongsTo inner at.node) (sym w.at.has.0) b) in
-      (w.number, (owned (jump x w.number)).1 (record { at = w.at.at; is = w.at.is; low = slice_get_within met w.number w.at.at w.at.is; owner = owner }), node_is met w.number w.at.at w.at.is ∙ w.at.has.0);
+        let w = (t.walked y).0 b.is.walked in
+        let owner = owner_is graph method met t inner w.number w.at.at x at w.at.is e (subst (BelongsTo inner at.node) (sym w.at.has.0) b) in
+        (w.number, (owned (jump x w.number)).1 (record { at = w.at.at; is = w.at.is; low = slice_get_within met w.number w.at.at w.at.is; owner = owner }), node_is met w.number w.at.at w.at.is ∙ w.at.has.0);
   }
 
   -- A construct to which something belongs is walked.
@@ -166,18 +166,21 @@ module _ (graph : PlainGraph) (shaped : IsShaped graph) (is_graph : IsGraph grap
 
   to_label : (x : ℕ) (at : Met) (target : ℕ) → at.walked ≡ true → LeadsToLabel graph method at.node target → (y : ℕ) × GoesTo graph met at y × (node_of met y ≡ target)
   to_label x at target w l =
-      let m = met_label l.name target l.label.is in
-      (m.number, record {
-        walked = w;
-        name = l.name;
-        is_goto = l.is_goto;
-        label = record {
-          at = m.at;
-          label = m.label;
-          least = λ other its o. subst (λ (n : ℕ). n ≤ its.node) (sym m.node) (l.label.least its.node (label_in l.name other its o));
-        };
-        target_walked = marked graph method met t m.number m.at m.label.is (subst (IsWalked graph method) (sym m.node) l.walked);
-      }, node_is met m.number m.at m.label.is ∙ m.node)
+      let m = met_label l.name target l.label.is in (
+        m.number,
+        record {
+          walked = w;
+          name = l.name;
+          is_goto = l.is_goto;
+          label = record {
+            at = m.at;
+            label = m.label;
+            least = λ other its o. subst (λ (n : ℕ). n ≤ its.node) (sym m.node) (l.label.least its.node (label_in l.name other its o));
+          };
+          target_walked = marked graph method met t m.number m.at m.label.is (subst (IsWalked graph method) (sym m.node) l.walked);
+        },
+        node_is met m.number m.at m.label.is ∙ m.node,
+      )
 
   pub among_gotos : (jumps : List Jump) (x : ℕ) (at : Met) → AreGotos graph met (length met) jumps → slice_get met x ≡ Some at → at.walked ≡ true → AreAmong met jumps x (LeadsToLabel graph method at.node)
   among_gotos jumps x at gotos e w = record {

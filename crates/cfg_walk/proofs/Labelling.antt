@@ -149,7 +149,7 @@ module _ (graph : PlainGraph) (met : List Met) where
   labels_new n at names more_names numbers new name e h target lacks names_are new_is = record {
     count_is = ap length new_is ∙ (length-append numbers (n ∷ []) ∙ (ap (λ (k : ℕ). k + 1) h.count_is ∙ (sym (length-append names (name ∷ [])) ∙ sym (ap length names_are))));
     each = λ i y other f g.
-      each i y other (split names (name ∷ []) i other (subst (λ (ns : List (List ℕ)). slice_get ns i ≡ Some other) names_are f)) (split numbers (n ∷ []) i y (subst (λ (ns : List ℕ). slice_get ns i ≡ Some y) new_is g));
+        each i y other (split names (name ∷ []) i other (subst (λ (ns : List (List ℕ)). slice_get ns i ≡ Some other) names_are f)) (split numbers (n ∷ []) i y (subst (λ (ns : List ℕ). slice_get ns i ≡ Some y) new_is g));
     all = λ other y its o. subst (λ (ns : List (List ℕ)). Contains ns other) (sym names_are) (all other y its (next n at other y its e o));
   }
     where

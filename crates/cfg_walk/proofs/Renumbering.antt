@@ -210,7 +210,7 @@ module _ (graph : PlainGraph) (shaped : IsShaped graph) (is_graph : IsGraph grap
   site_led x at row node e node_is row_of = record {
     rule_is = rule_same graph shaped is_graph method has_body met h x at node node_is ∙ sym row_of.rule_is;
     parts = parts_same graph shaped is_graph method has_body met h x at node e node_is
-      ∙ sym (ap (all_led (node_of met)) row_of.parts_are ∙ (parts_led graph shaped is_graph method has_body met h x at e).leads);
+        ∙ sym (ap (all_led (node_of met)) row_of.parts_are ∙ (parts_led graph shaped is_graph method has_body met h x at e).leads);
     end = end_same graph shaped is_graph method has_body met h x at node ∙ sym end_led;
     targets = targets_led x at node e;
     breaks = breaks_led x at node e;

@@ -106,9 +106,9 @@ module _ (graph : PlainGraph) (method : ℕ) (met : List Met) (number : ℕ) (at
         rule_is = adds.rule_is;
         has_parts = record { forward = omega arith; within = omega arith };
         parts_are =
-          ap (λ (ps : List (Option ℕ)). slice_range ps adds.row.from adds.row.to) parts
-          ∙ (new_range old.parts.items more adds.row.from adds.row.to from (to ∙ ap length parts)
-          ∙ ap (λ (n : ℕ). numbered_parts graph n number at) first);
+            ap (λ (ps : List (Option ℕ)). slice_range ps adds.row.from adds.row.to) parts
+            ∙ (new_range old.parts.items more adds.row.from adds.row.to from (to ∙ ap length parts)
+            ∙ ap (λ (n : ℕ). numbered_parts graph n number at) first);
       }
 
   pub rows_next : slice_get met number ≡ Some at → old.first ≡ first_of graph met number → AreRowsTo graph method met number old.rows.items old.parts.items → AddsRow graph method number at old new →
@@ -129,7 +129,6 @@ module _ (graph : PlainGraph) (method : ℕ) (met : List Met) (number : ℕ) (at
       by x a row e (in_left f) = kept_row (first_of graph met x) x a row adds (h.each x a row e f)
       by x a row e (in_right zero x_is f) = let count = h.count_is in here x a row e (omega arith) (let s : Some adds.row ≡ Some row = f in cc)
       by x a row e (in_right (suc j) x_is f) = cc
-
 
 pub first_after : (graph : PlainGraph) (met : List Met) (number first next : ℕ) (at : Met) → slice_get met number ≡ Some at → first ≡ first_of graph met number → next ≡ first + length (below graph number at) → next ≡ first_of graph met (number + 1)
 first_after graph met number first next at is first_is next_is = next_is ∙ (ap (λ (n : ℕ). n + length (below graph number at)) first_is ∙ sym (first_next graph met number at is))

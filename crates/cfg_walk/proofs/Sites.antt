@@ -151,7 +151,7 @@ module _ (graph : PlainGraph) (shaped : IsShaped graph) (is_graph : IsGraph grap
       record {
         number = number;
         is = number_at (children_of graph at.node) (first_of graph met x) place.position child place.is
-          (λ i low f. (let s : i ≡ place.position = one_place graph at.node shaped i place.position child f place.is in absurd (omega arith)));
+            (λ i low f. (let s : i ≡ place.position = one_place graph at.node shaped i place.position child f place.is in absurd (omega arith)));
         leads = node_is met number (met_as graph x at child) child_is;
         above = omega arith;
         low = slice_get_within met number (met_as graph x at child) child_is;

@@ -121,7 +121,11 @@ pub(crate) fn jumps_of(
 }
 
 /// Of each node whether a walked `default` belongs to it.
-pub(crate) fn defaults_of(alloc: Global, graph: &Graph, met: &[Met]) -> Result<Vec<bool>, AllocError>
+pub(crate) fn defaults_of(
+    alloc: Global,
+    graph: &Graph,
+    met: &[Met],
+) -> Result<Vec<bool>, AllocError>
     requires { (x : ℕ) (at : Met) → slice_get met.now x ≡ Some at →
         at.node < length graph.now.nodes }
     ensures { IfOk result (λ flags.

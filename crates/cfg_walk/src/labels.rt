@@ -151,11 +151,7 @@ fn add_goto(jumps: &mut Vec<Jump>, number: u32, target: Option<u32>) -> Result<(
 }
 
 /// The jumps of the `goto`s of a function.
-pub(crate) fn gotos_of(
-    alloc: Global,
-    graph: &Graph,
-    met: &[Met],
-) -> Result<Vec<Jump>, AllocError>
+pub(crate) fn gotos_of(alloc: Global, graph: &Graph, met: &[Met]) -> Result<Vec<Jump>, AllocError>
     requires inside { (x : ℕ) (at : Met) → slice_get met.now x ≡ Some at →
         at.node < length graph.now.nodes }
     requires once { AreOnce met.now }

@@ -42,6 +42,6 @@ loop-number-preserved c =
     record {
       first = first_after graph met number c.loop-number.rows.first c.add.new.self.first at is first c.in_ok-add.ensures.first;
       rows = λ method d.
-        let flag : get_or c.args.defaults.now number Bool.false ≡ has_default graph method at.node = get_or_from_slice_get c.args.defaults.now number (has_default graph method at.node) Bool.false (d.each number at is) in
-        rows_next graph method met number at c.loop-number.rows c.add.new.self is first (c.loop-number.invariant.rows method d) (c.in_ok-add.ensures.row method flag);
+          let flag : get_or c.args.defaults.now number Bool.false ≡ has_default graph method at.node = get_or_from_slice_get c.args.defaults.now number (has_default graph method at.node) Bool.false (d.each number at is) in
+          rows_next graph method met number at c.loop-number.rows c.add.new.self is first (c.loop-number.invariant.rows method d) (c.in_ok-add.ensures.row method flag);
     }

@@ -145,4 +145,3 @@ returns-clause-renumbered c =
       are_gotos = c.in_ok-gotos.ensures;
     } in
     renumbered graph c.requires.shaped c.law_stored.ensures.is_graph c.args.method c.requires.body c.args.met.now c.requires.met plan planned
-
