@@ -1,6 +1,6 @@
 -- The nodes above one that open scopes, and how they are kept (ours).
 use Rattle.std.specs.Prelude.{ℕ, ◌≡◌, ◌≤◌, ◌<◌, ◌==◌, List, [], ◌∷◌, Option, Some, None, filter}
-use Rattle.std.specs.Prelude.{if◌then◌else◌, length, slice_index}
+use Rattle.std.specs.Prelude.{if◌then◌else◌, length, slice_get, slice_index}
 use Rattle.std.specs.List.{Contains}
 use Rattle.cpg_schema.specs.Graph.{PlainGraph}
 use Rattle.graph_parts.specs.NodesAbove.{nodes_above}
@@ -36,8 +36,8 @@ pub record AreOpenings (graph : PlainGraph) (openers : List ℕ) : Type 0 where
 pub record AreAround (graph : PlainGraph) (around : Around) : Type 0 where
   pub count : length around.is_around.items ≡ length graph.nodes
   pub each : (scope : ℕ) → scope < length graph.nodes →
-      slice_index around.is_around.items scope
-      ≡ is_one_of (Some scope) (chain_at graph (node_or_none around.innermost))
+      slice_get around.is_around.items scope
+      ≡ Some (is_one_of (Some scope) (chain_at graph (node_or_none around.innermost)))
 
 -- No node from this number on uses a name below one that opens a scope and that is not marked with
 -- it or a later one. Where one is marked, so are those above it, with no lower number.
