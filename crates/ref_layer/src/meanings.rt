@@ -43,6 +43,7 @@ fn declared_name(graph: &Graph, node: u32) -> Option<&[u8]>
 
 /// The scope node of a declaration.
 fn scope_of(graph: &Graph, index: &Index, openers: &[u32], node: u32) -> Option<u32>
+    requires shaped { IsShaped (plain graph.now) }
     requires index { IsIndexOf graph.now index.now }
     requires openers { AreOpenings (plain graph.now) openers.now }
     requires inside { node < length graph.now.nodes }

@@ -1,6 +1,7 @@
 //! Which nodes of a graph open scopes, and which scope a declaration has.
 
 ghost use Rattle.std.specs.Prelude.{◌≡◌, ◌<◌, Some, length, IfSome};
+ghost use Rattle.cpg_schema.specs.Shape.{IsShaped};
 ghost use Rattle.graph_store.specs.Stored.{plain};
 ghost use Rattle.edge_index.specs.Indexed.{IsIndexOf};
 ghost use Rattle.graph_parts.specs.NodesAbove.{parent_at};
@@ -73,6 +74,7 @@ fn is_body(graph: &Graph, index: &Index, parent: u32, child: u32) -> bool
 
 /// Whether the node opens a scope.
 pub(crate) fn opens_scope(graph: &Graph, index: &Index, node: u32) -> bool
+    requires shaped { IsShaped (plain graph.now) }
     requires index { IsIndexOf graph.now index.now }
     requires inside { node < length graph.now.nodes }
     ensures { result ≡ opens_scope (plain graph.now) node }
@@ -102,6 +104,7 @@ fn is_for(graph: &Graph, node: u32) -> bool
 
 /// The `for` whose first part a BLOCK is, and else the node itself.
 pub(crate) fn widened(graph: &Graph, index: &Index, node: u32) -> u32
+    requires shaped { IsShaped (plain graph.now) }
     requires index { IsIndexOf graph.now index.now }
     requires inside { node < length graph.now.nodes }
     ensures is { result ≡ widened (plain graph.now) node }
